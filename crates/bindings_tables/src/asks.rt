@@ -1,4 +1,4 @@
-//! Rows of CoAP requests in words, and what they ask for.
+//! Rows of CoAP requests in words, and their meanings.
 
 use crate::runs;
 use crate::targets::put_path;
@@ -9,7 +9,7 @@ use std::alloc::{AllocError, Global};
 use std::fmt::Write;
 use thing_ops::{Accept, Request};
 
-/// The media types that are taken.
+/// The word of the media types that are taken.
 pub fn accept_word(accept: Accept) -> &'static str {
     match (accept.json, accept.td) {
         (true, true) => "json and td",
@@ -19,7 +19,7 @@ pub fn accept_word(accept: Accept) -> &'static str {
     }
 }
 
-/// What a request takes and has.
+/// Writes the media types that a request takes, and its parts.
 fn put_request(text: &mut String, request: &Request<'_>) -> Result<(), AllocError> {
     write!(text, "{:?} ", request.verb)?;
     put_path(text, &request.path)?;
@@ -29,7 +29,7 @@ fn put_request(text: &mut String, request: &Request<'_>) -> Result<(), AllocErro
     runs::put(text, request.query)
 }
 
-/// What is asked for.
+/// Writes an ask.
 fn put_ask(text: &mut String, ask: &CoapAsk<'_>) -> Result<(), AllocError> {
     put_request(text, &ask.request)?;
     match ask.observe {
@@ -38,7 +38,7 @@ fn put_ask(text: &mut String, ask: &CoapAsk<'_>) -> Result<(), AllocError> {
     }
 }
 
-/// What a request asks for, or what is wrong with it.
+/// Writes the meaning of a request, or its fault.
 fn put_asked(text: &mut String, alloc: Global, message: &Message<'_>) -> Result<(), AllocError> {
     if message.code == 0 || message.code >= 32 {
         return text.push_str("no request");
@@ -50,7 +50,7 @@ fn put_asked(text: &mut String, alloc: Global, message: &Message<'_>) -> Result<
     }
 }
 
-/// What the bytes of a message ask for.
+/// Writes the meaning of a message's bytes.
 fn put_decoded(text: &mut String, alloc: Global, bytes: &[u8]) -> Result<(), AllocError> {
     match decode(bytes) {
         Ok(message) => put_asked(text, alloc, &message),

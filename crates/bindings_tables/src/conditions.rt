@@ -1,5 +1,5 @@
-//! What requests ask of the version of a property: of HTTP by the lines after Host, of CoAP by the options of a message
-//! in words.
+//! The conditions of requests on the version of a property: of HTTP by the lines after Host, of CoAP by the options of
+//! a message in words.
 
 use case_notation::{bytes_of, message_of};
 use coap_msg::{Message, decode};
@@ -9,7 +9,7 @@ use std::alloc::{AllocError, Global};
 use std::fmt::Write;
 use thing_ops::{Conditions, Tags};
 
-/// Puts what comes next after what is there of a row.
+/// Begins the next part of a row, after a semicolon if it isn't the first.
 fn begin(text: &mut String, start: usize) -> Result<(), AllocError> {
     if text.len() > start {
         text.push_str("; ")
@@ -44,7 +44,7 @@ fn put_match(text: &mut String, tags: &Tags) -> Result<(), AllocError> {
     }
 }
 
-/// What is asked.
+/// Writes conditions.
 fn put_conditions(text: &mut String, conditions: &Conditions) -> Result<(), AllocError> {
     let start = text.len();
     if let Some(tags) = &conditions.if_match {
@@ -78,12 +78,12 @@ fn request_bytes(alloc: Global, method: &str, lines: &[u8]) -> Result<Vec<u8>, A
     Ok(bytes)
 }
 
-/// What a head asks.
+/// Writes the conditions of a head.
 fn put_head(text: &mut String, alloc: Global, head: &Head<'_>) -> Result<(), AllocError> {
     put_conditions(text, &head.conditions(alloc, verb_of(head.method))?)
 }
 
-/// What the head at the front of bytes asks.
+/// Writes the conditions of the head at the front of bytes.
 fn put_scanned(text: &mut String, alloc: Global, bytes: &[u8]) -> Result<(), AllocError> {
     match scan(bytes) {
         Scanned::Whole {
@@ -96,7 +96,7 @@ fn put_scanned(text: &mut String, alloc: Global, bytes: &[u8]) -> Result<(), All
     }
 }
 
-/// What the lines of an HTTP request ask.
+/// Writes the conditions of the lines of an HTTP request.
 pub fn put_of_lines(text: &mut String, alloc: Global, given: &str) -> Result<(), AllocError> {
     let (method, lines) = given.split_once(' ').unwrap_or((given, "-"));
     let lines = bytes_of(alloc, lines)?;
@@ -107,7 +107,7 @@ pub fn put_of_lines(text: &mut String, alloc: Global, given: &str) -> Result<(),
     )
 }
 
-/// What a message asks, or what is wrong with its options.
+/// Writes the conditions of a message, or the fault of its options.
 fn put_asked(text: &mut String, alloc: Global, message: &Message<'_>) -> Result<(), AllocError> {
     if message.code == 0 || message.code >= 32 {
         return text.push_str("no request");
@@ -119,7 +119,7 @@ fn put_asked(text: &mut String, alloc: Global, message: &Message<'_>) -> Result<
     }
 }
 
-/// What the bytes of a message ask.
+/// Writes the conditions of a message's bytes.
 fn put_decoded(text: &mut String, alloc: Global, bytes: &[u8]) -> Result<(), AllocError> {
     match decode(bytes) {
         Ok(message) => put_asked(text, alloc, &message),
@@ -127,7 +127,7 @@ fn put_decoded(text: &mut String, alloc: Global, bytes: &[u8]) -> Result<(), All
     }
 }
 
-/// What the options of a CoAP request ask.
+/// Writes the conditions of the options of a CoAP request.
 pub fn put_of_options(text: &mut String, alloc: Global, given: &str) -> Result<(), AllocError> {
     put_decoded(text, alloc, message_of(alloc, given)?.as_slice())
 }

@@ -1,15 +1,15 @@
 //! The connections of an HTTP server. A step is its moment, a word, the number of a connection or `all` for the 64 of
-//! them, and bytes; and what comes of it:
+//! them, and bytes; and its result:
 //!
 //! - `opens`: the connection is opened;
-//! - `hears`: what is to be done on it is done, and these bytes come;
-//! - `does`: what is to be done on it is done, at this moment: what is sent, `-` for nothing; of all connections that
-//!   of the first, and that of any other where it is something else;
+//! - `hears`: its work is done, and these bytes come;
+//! - `does`: its work is done, at this moment: the bytes that are sent, `-` for none; of all connections those
+//!   of the first, and those of any other where they differ;
 //! - `ends`: it has ended;
 //! - `waiting`, with the number of a target in place of a connection: the one that waits longest for it;
-//! - `wakes`, with a target and a text: what is sent to that one;
+//! - `wakes`, with a target and a text: the bytes that are sent to that one;
 //! - `late` (without a number): the one that waits longest, of those that are late;
-//! - `expires` (without a number): what is sent to that one;
+//! - `expires` (without a number): the bytes that are sent to that one;
 //! - `idle` (without a number): the lowest that is idle.
 
 ghost use Rattle.std.specs.Prelude.{◌≤◌, ◌<◌, IfSome, length};
@@ -114,7 +114,7 @@ fn act(
     Ok(())
 }
 
-/// Forgets what was sent from this place on, where it is the same as what is before it.
+/// Forgets the bytes that were sent from this place on, where they are the same as those before it.
 fn forget_repeat(sent: &mut Vec<u8>, place: usize) {
     let bytes = sent.as_slice();
     if place > 0 && bytes.get(place..) == bytes.get(..place) {
@@ -160,7 +160,7 @@ fn act_as_told(
     act_on_each(http, numbers_of(step.connections), talk, room, done)
 }
 
-/// Which connection it is.
+/// Writes the number of a connection, if there is one.
 fn put_connection(text: &mut String, connection: Option<u32>) -> Result<(), AllocError> {
     match connection {
         Some(c) => write!(text, "{c}"),
@@ -222,7 +222,7 @@ fn put_expiry(text: &mut String, http: &mut HttpBind, talk: &mut Talk) -> Result
     put_woken(text, http, c, None, talk)
 }
 
-/// Does a step, and says what comes of it.
+/// Does a step, and writes its result.
 fn put_act(
     text: &mut String,
     alloc: Global,
@@ -235,7 +235,7 @@ fn put_act(
     runs::put(text, talk.sent.as_slice())
 }
 
-/// Writes a step and what comes of it.
+/// Writes a step and its result.
 fn put_step(
     text: &mut String,
     alloc: Global,
@@ -258,7 +258,7 @@ fn put_step(
     text.push_str("\n")
 }
 
-/// Goes through the steps of a history.
+/// Goes through the steps of a history. All is lent, since a function pays at each early exit for what it owns.
 fn put_steps(
     text: &mut String,
     alloc: Global,

@@ -1,6 +1,6 @@
 //! Steps of the CoAP server that are many: `hosts N TARGET`, a GET with Observe 0 for a target from each of the first N
-//! hosts; `all MOMENT`, everything that is to be sent to watchers at a moment; and `rounds N TARGET`, N values of a
-//! target, each sent to host 1 and acknowledged.
+//! hosts; `all MOMENT`, all notifications to be sent at a moment; and `rounds N TARGET`, N values of a target, each
+//! sent to host 1 and acknowledged.
 
 ghost use Rattle.std.specs.Prelude.{◌≡◌, ◌≤◌};
 
@@ -43,7 +43,7 @@ fn registers(server: &mut CoapBind, host: u64, target: u32, now: u64) -> bool
     }
 }
 
-/// How many of the first N hosts register.
+/// The number of the first N hosts that register.
 fn count_registered(server: &mut CoapBind, hosts: u64, target: u32, now: u64) -> u64
     requires { server.old.exchanges.moment ≤ now }
     ensures { server.new.exchanges.moment ≤ now }
@@ -57,7 +57,7 @@ fn count_registered(server: &mut CoapBind, hosts: u64, target: u32, now: u64) ->
     count
 }
 
-/// What is sent to watchers at a moment: how many messages, to which hosts, and with which IDs.
+/// Writes the notifications at a moment: the number of messages, their hosts, and their IDs.
 fn put_all(text: &mut String, server: &mut CoapBind, now: u64) -> Result<(), AllocError>
     ensures { server.new.exchanges ≡ server.old.exchanges }
 {
@@ -102,7 +102,7 @@ fn put_rounds(
     put_sent(text, room.get(..size).unwrap_or(b""))
 }
 
-/// Does a step, and writes what comes of it.
+/// Does a step, and writes its result.
 pub fn put(text: &mut String, server: &mut CoapBind, step: &str, now: u64) -> Result<(), AllocError>
     requires { server.old.exchanges.moment ≤ now }
     ensures { server.new.exchanges.moment ≤ now }

@@ -1,9 +1,8 @@
-//! The CoAP server, in which 16 exchanges may live, or as many as a line `room for N exchanges` says, and to which there
-//! may be four watchers, or as many as a line `room for N watchers` says. A line `links TEXT` gives it the text of its
-//! links, as bytes are written. A step is a datagram: its moment, its host,
-//! what it comes to where it is asked (`-` where it isn't to be), and its message; and what is done with it. What a
-//! request for target 3 comes to is written `3/Content:7`. Other steps are in `notifications.rt`, `crowds.rt` and
-//! `transfers.rt`.
+//! The CoAP server, in which 16 exchanges may live, or as many as a line `room for N exchanges` says, and to which
+//! there may be four observers, or as many as a line `room for N watchers` says. A line `links TEXT` gives it the text
+//! of its links, as bytes are written. A step is a datagram: its moment, its host, its outcome where it is asked (`-`
+//! where it isn't to be), and its message; and its treatment. The outcome of a request for target 3 is written
+//! `3/Content:7`. Other steps are in `notifications.rt`, `crowds.rt` and `transfers.rt`.
 
 ghost use Rattle.std.specs.Prelude.{◌≤◌};
 ghost use Rattle.thing_ops.specs.Outcomes.{HasCode};
@@ -26,7 +25,7 @@ use wot_json::Bytes;
 /// The most bytes of a body that comes in blocks.
 pub const LONGEST_BODY: usize = 16_384;
 
-/// A message that is sent; a byte of its payload that comes many times in a row is written once.
+/// Writes a message that is sent; a byte of its payload that comes many times in a row is written once.
 pub fn put_sent(text: &mut String, bytes: &[u8]) -> Result<(), AllocError> {
     text.push_str("sends ")?;
     let payload = match decode(bytes) {
@@ -43,7 +42,7 @@ pub fn put_sent(text: &mut String, bytes: &[u8]) -> Result<(), AllocError> {
     runs::put_plain(text, payload)
 }
 
-/// What is asked for.
+/// Writes an ask.
 fn put_ask(text: &mut String, ask: &CoapAsk<'_>) -> Result<(), AllocError> {
     write!(text, "asks {:?} ", ask.request.verb)?;
     put_path(text, &ask.request.path)?;
@@ -57,13 +56,13 @@ fn put_ask(text: &mut String, ask: &CoapAsk<'_>) -> Result<(), AllocError> {
     text.push_str(", ")
 }
 
-/// What is asked for, and what is sent.
+/// Writes an ask, and the reply that is sent.
 fn put_answered(text: &mut String, ask: &CoapAsk<'_>, sent: &[u8]) -> Result<(), AllocError> {
     put_ask(text, ask)?;
     put_sent(text, sent)
 }
 
-/// Where a datagram comes from, when, and what may be observed there.
+/// The endpoint from which a datagram comes, its moment, and the target that may be observed.
 #[derive(Clone, Copy)]
 pub struct Origin {
     pub from: Endpoint,
@@ -71,7 +70,7 @@ pub struct Origin {
     pub target: Option<u32>,
 }
 
-/// What is done with a datagram that comes to this.
+/// Writes the treatment of a datagram that has this outcome.
 fn put_done(
     text: &mut String,
     server: &mut CoapBind,
@@ -132,7 +131,7 @@ fn fields_of(step: &str) -> Fields<'_> {
     }
 }
 
-/// What is done with the datagram of these fields.
+/// Writes the treatment of the datagram of these fields.
 fn put_fields(
     text: &mut String,
     alloc: Global,
@@ -153,7 +152,7 @@ fn put_fields(
     put_done(text, server, origin, datagram.as_slice(), &outcome)
 }
 
-/// What comes of a step.
+/// Writes the result of a step.
 fn put_done_by(
     text: &mut String,
     alloc: Global,
@@ -176,7 +175,7 @@ fn put_done_by(
     put_fields(text, alloc, server, fields_of(step), now)
 }
 
-/// Writes a step and what comes of it.
+/// Writes a step and its result.
 fn put_step(
     text: &mut String,
     alloc: Global,
@@ -193,7 +192,7 @@ fn put_step(
     text.push_str("\n")
 }
 
-/// How many of these there may be, where a history says it.
+/// The number of these that there may be, where a history says it.
 fn room_for(history: &str, what: &str) -> Option<u32> {
     for line in history.lines() {
         if let Some(rest) = line.strip_prefix("room for ") {
@@ -205,7 +204,7 @@ fn room_for(history: &str, what: &str) -> Option<u32> {
     None
 }
 
-/// How many exchanges may live.
+/// The number of exchanges that may live.
 fn exchanges_of(history: &str) -> u32
     ensures least { 16 ≤ result }
     ensures most { result ≤ 65536 }
@@ -215,7 +214,7 @@ fn exchanges_of(history: &str) -> u32
         .clamp(16, 65_536)
 }
 
-/// How many watchers there may be.
+/// The number of observers that there may be.
 fn watchers_of(history: &str) -> u32
     ensures least { 1 ≤ result }
     ensures most { result ≤ 1024 }

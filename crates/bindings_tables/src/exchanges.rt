@@ -1,5 +1,5 @@
-//! Exchanges of CoAP in a table in which 16 may live. A step is a request: its moment, where it comes from, `CON` or
-//! `NON`, its message id, and the reply to keep, `none` for none; and what it meets.
+//! Exchanges of CoAP in a table in which 16 may live. A step is a request: its moment, its endpoint, `CON` or `NON`,
+//! its message ID, and the reply to keep, `none` for none; and its verdict.
 
 ghost use Rattle.std.specs.Prelude.{◌≡◌, ◌≤◌, ◌⊎◌};
 ghost use Rattle.coap_exchange.specs.Table.{IsAwaited};
@@ -73,7 +73,7 @@ fn keep(alloc: Global, exchanges: &mut Exchanges, slot: u32, reply: &str) -> Res
     Ok(())
 }
 
-/// What a request meets at this moment.
+/// Writes the verdict on a request at this moment.
 fn put_met(
     text: &mut String,
     alloc: Global,
@@ -98,7 +98,7 @@ fn put_met(
     }
 }
 
-/// Writes a step and what it meets.
+/// Writes a step and its verdict.
 fn put_step(
     text: &mut String,
     alloc: Global,

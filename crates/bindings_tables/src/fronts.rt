@@ -1,7 +1,7 @@
-//! HTTP: the bytes of a stream, and what is at its front, however many of them are there. Whatever that is for the
-//! first bytes stands until another follows after ` | `, with the number of bytes from which on it is so; at first
-//! nothing is whole and no 100 reply is asked for. Of more than 1,000 bytes the one place where that changes is found
-//! by binary search.
+//! HTTP: the bytes of a stream, and the message at its front, however many of them are there. The finding for the first
+//! bytes stands until another follows after ` | `, with the number of bytes from which on it is so; at first nothing is
+//! whole and no 100 reply is asked for. Of more than 1,000 bytes the one place where it changes is found by binary
+//! search.
 
 use crate::asks::accept_word;
 use crate::runs;
@@ -9,7 +9,7 @@ use http_wire::{Body, Head, Scanned, scan};
 use std::alloc::{AllocError, Global};
 use std::fmt::Write;
 
-/// What is seen at the front of a stream; and whether a 100 reply is asked for.
+/// A finding at the front of a stream; and whether a 100 reply is asked for.
 #[derive(Clone, Copy, PartialEq, Eq)]
 enum Seen {
     /// A message that isn't whole.
@@ -20,7 +20,7 @@ enum Seen {
     Fault(u16, bool),
 }
 
-/// What is seen at the front of these bytes.
+/// The finding at the front of these bytes.
 fn look(bytes: &[u8]) -> Seen {
     match scan(bytes) {
         Scanned::Short { expect } => Seen::Short(expect),
@@ -34,12 +34,12 @@ fn look(bytes: &[u8]) -> Seen {
     }
 }
 
-/// The word of what is asked for.
+/// The word that says whether a 100 reply is asked for.
 fn expect_word(expect: bool) -> &'static str {
     if expect { ", asks for 100" } else { "" }
 }
 
-/// What is seen.
+/// Writes a finding.
 fn put_seen(text: &mut String, seen: Seen) -> Result<(), AllocError> {
     match seen {
         Seen::Short(expect) => write!(text, "short{}", expect_word(expect)),
@@ -48,13 +48,13 @@ fn put_seen(text: &mut String, seen: Seen) -> Result<(), AllocError> {
     }
 }
 
-/// More bytes than this aren't looked at for each number of them.
+/// The most bytes that are looked at for each number of them.
 const MANY: usize = 1000;
 
-/// What is seen at first.
+/// The finding at first.
 const NOTHING: Seen = Seen::Short(false);
 
-/// From how many of these bytes on something is seen, found by binary search.
+/// The least number of these bytes at which something is seen, found by binary search.
 fn first_seen(bytes: &[u8]) -> usize {
     let mut low = 0usize;
     let mut high = bytes.len();
@@ -69,7 +69,7 @@ fn first_seen(bytes: &[u8]) -> usize {
     high
 }
 
-/// What is seen at the front of many bytes, and from how many on.
+/// Writes the finding at the front of many bytes, and the least number of bytes for it.
 fn put_change(text: &mut String, bytes: &[u8]) -> Result<(), AllocError> {
     if look(bytes) == NOTHING {
         return Ok(());
@@ -80,7 +80,7 @@ fn put_change(text: &mut String, bytes: &[u8]) -> Result<(), AllocError> {
     text.push_str(" | ")
 }
 
-/// What is seen at the front of more and more of these bytes, wherever that changes.
+/// Writes the findings at the front of more and more of these bytes, wherever they change.
 fn put_changes(text: &mut String, bytes: &[u8]) -> Result<(), AllocError> {
     let mut last = NOTHING;
     for end in 0..=bytes.len() {
@@ -102,7 +102,7 @@ fn put_body(text: &mut String, alloc: Global, body: &Body<'_>) -> Result<(), All
     runs::put(text, bytes.as_slice())
 }
 
-/// What a head says.
+/// Writes the parts of a head.
 fn put_head(text: &mut String, head: &Head<'_>) -> Result<(), AllocError> {
     runs::put(text, head.method)?;
     text.push_str(" ")?;
@@ -111,7 +111,7 @@ fn put_head(text: &mut String, head: &Head<'_>) -> Result<(), AllocError> {
     write!(text, "{close}, takes {}, body ", accept_word(head.accept))
 }
 
-/// What a whole message says.
+/// Writes the parts of a whole message.
 fn put_message(
     text: &mut String,
     alloc: Global,

@@ -1,5 +1,5 @@
 //! The message IDs of the CoAP server: a message comes from one host n times, each m milliseconds after the one before
-//! it; and the ids of what is sent.
+//! it; and the IDs of the messages that are sent.
 
 ghost use Rattle.std.specs.Prelude.{◌≤◌};
 
@@ -11,13 +11,13 @@ use std::alloc::{AllocError, Global};
 use std::fmt::Write;
 use thing_ops::Outcome;
 
-/// Where the messages come from.
+/// The endpoint from which the messages come.
 const FROM: Endpoint = Endpoint {
     host: 1,
     port: 5683,
 };
 
-/// What is known of the ids so far.
+/// The facts on the IDs so far.
 #[derive(Clone, Copy)]
 struct Ids {
     count: u64,
@@ -32,7 +32,7 @@ fn id_in(room: &[u8; LONGEST_MESSAGE]) -> u16 {
     u16::from(*high) * 256 + u16::from(*low)
 }
 
-/// The id of what is sent back, if something is; what is asked isn't there.
+/// The ID of the reply, if there is one; an ask is answered as absent.
 pub fn next_id(server: &mut CoapBind, datagram: &[u8], now: u64) -> Option<u16>
     requires { server.old.exchanges.moment ≤ now }
     ensures { server.new.exchanges.moment ≤ now }
@@ -52,7 +52,7 @@ pub fn next_id(server: &mut CoapBind, datagram: &[u8], now: u64) -> Option<u16>
     }
 }
 
-/// What is known once this id was sent too.
+/// The facts once this ID was sent too.
 fn with_id(ids: Ids, id: u16) -> Ids {
     if ids.count == 0 {
         return Ids {
@@ -70,7 +70,7 @@ fn with_id(ids: Ids, id: u16) -> Ids {
     }
 }
 
-/// The ids of what is sent for n copies of a datagram.
+/// The IDs of the messages that are sent for n copies of a datagram.
 fn ids_of(server: &mut CoapBind, datagram: &[u8], times: u64, distance: u64) -> Ids
     requires { server.old.exchanges.moment ≤ 0 }
 {
@@ -90,7 +90,7 @@ fn ids_of(server: &mut CoapBind, datagram: &[u8], times: u64, distance: u64) -> 
     ids
 }
 
-/// What is known of the ids.
+/// Writes the facts on the IDs.
 fn put_ids(text: &mut String, ids: Ids) -> Result<(), AllocError> {
     let order = if ids.in_order { "each" } else { "not each" };
     write!(
@@ -100,7 +100,7 @@ fn put_ids(text: &mut String, ids: Ids) -> Result<(), AllocError> {
     )
 }
 
-/// The ids of what a server of its own sends.
+/// Writes the IDs of the messages that a server of its own sends.
 fn put_copies(
     text: &mut String,
     alloc: Global,

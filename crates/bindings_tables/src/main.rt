@@ -1,14 +1,13 @@
-//! Tables of the bindings: CoAP messages, what they ask for, exchanges, watchers, and the server with its notifications
-//! and blocks; HTTP requests and replies at the front of a stream, the targets of requests, what they ask of versions,
-//! the heads of replies, outcomes, and the connections of an HTTP server. Each argument names a file: the table of that
-//! name.
+//! Tables of the bindings: CoAP messages, their meanings, exchanges, observers, and the server with its notifications
+//! and blocks; HTTP requests and replies at the front of a stream, the targets of requests, their conditions on
+//! versions, the heads of replies, outcomes, and the connections of an HTTP server. Each argument names a file: the
+//! table of that name.
 //!
-//! A row is what is given, ` => `, and what comes of it. The program prints each row with what does come of it, and
-//! each other line as it is: so it prints its files, if all is right. Most rows stand alone. In some files rows are
-//! steps of a history, which begins at the top and anew after each empty line.
+//! A row is an input, ` => `, and its result. The program prints each row with the result that comes, and each other
+//! line as it is: so it prints its files, if all is right. Most rows stand alone. In some files rows are steps of a
+//! history, which begins at the top and anew after each empty line.
 //!
-//! All that is said goes to one text, which is passed on by reference: what fails then has nothing of its own to give
-//! up, which is what makes a proof long.
+//! All output goes to one text, which is lent, since a function pays in proof at each early exit for what it owns.
 #![tactic(auto)]
 
 mod asks;
@@ -35,7 +34,7 @@ mod watchers;
 use std::alloc::{AllocError, Global};
 use std::{env, fs, io};
 
-/// Puts down what comes of these bytes in this table.
+/// Writes the result of these bytes in this table.
 fn put_said(text: &mut String, alloc: Global, table: &str, bytes: &[u8]) -> Result<(), AllocError> {
     match table {
         "messages" => messages::put(text, bytes),
@@ -65,13 +64,13 @@ fn put_row(text: &mut String, alloc: Global, table: &str, given: &str) -> Result
     }
 }
 
-/// Writes a row up to what comes of it.
+/// Writes a row up to its result.
 fn put_given(text: &mut String, given: &str) -> Result<(), AllocError> {
     text.push_str(given)?;
     text.push_str(" => ")
 }
 
-/// A row with what comes of it; a line that is no row as it is.
+/// Writes a row with its result, and a line that is no row as it is.
 fn put_line(text: &mut String, alloc: Global, table: &str, line: &str) -> Result<(), AllocError> {
     match line.split_once(" => ") {
         Some((given, _wanted)) => {

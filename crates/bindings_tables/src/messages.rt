@@ -1,4 +1,4 @@
-//! CoAP messages: bytes, and what `decode` makes of them.
+//! CoAP messages: bytes, and the result of `decode`.
 
 use crate::runs;
 use case_notation::put_digits;

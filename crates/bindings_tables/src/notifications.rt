@@ -1,5 +1,5 @@
-//! Steps of the CoAP server beside datagrams: `emit TARGET`, a new value of a target; and `next MOMENT VALUE`, what is to
-//! be sent to a watcher at a moment, where the last value of its target is this; with what comes of it.
+//! Steps of the CoAP server beside datagrams: `emit TARGET`, a new value of a target; and `next MOMENT VALUE`, the
+//! notification to be sent at a moment, where the last value of its target is this; with the result.
 
 ghost use Rattle.std.specs.Prelude.{◌≡◌};
 
@@ -15,7 +15,7 @@ pub fn is_step(step: &str) -> bool {
     step.starts_with("emit ") || step.starts_with("next ")
 }
 
-/// What is sent to a watcher at a moment, where the last value of its target is this.
+/// Writes the notification that is sent at a moment, where the last value of its target is this.
 fn put_next(
     text: &mut String,
     server: &mut CoapBind,
@@ -38,7 +38,7 @@ fn put_next(
     }
 }
 
-/// Does a step, and writes what comes of it.
+/// Does a step, and writes its result.
 pub fn put(
     text: &mut String,
     alloc: Global,

@@ -1,4 +1,4 @@
-//! Outcomes of requests, by words: the name of an outcome, and after a colon what it carries. `Tagged:2:7` is the value 7
+//! Outcomes of requests, by words: the name of an outcome, and its content after a colon. `Tagged:2:7` is the value 7
 //! whose version is 2.
 
 ghost use Rattle.std.specs.Prelude.{IfOk};

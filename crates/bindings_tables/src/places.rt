@@ -1,5 +1,5 @@
-//! Outcomes over HTTP, each the answer to a POST request: the name of an outcome, after a colon what it carries, and
-//! the bytes that are sent.
+//! Outcomes over HTTP, each the answer to a POST request: the name of an outcome, its content after a colon, and the
+//! bytes that are sent.
 
 ghost use Rattle.std.specs.Prelude.{◌<◌};
 ghost use Rattle.http_bind.specs.Slots.{IsOwed};
@@ -12,7 +12,7 @@ use std::alloc::{AllocError, Global};
 use thing_ops::{Outcome, Segments};
 use wot_json::Text;
 
-/// What was started at the path of one segment, with the status 1.
+/// An action that was started at the path of one segment, with the status 1.
 fn started_at(alloc: Global, segment: &[u8]) -> Result<Outcome, AllocError> {
     let mut place = Segments::new(alloc);
     place.push(segment)?;
@@ -43,7 +43,7 @@ fn any_outcome_of(alloc: Global, word: &str) -> Result<Outcome, AllocError> {
     }
 }
 
-/// What is sent, or that the request waits.
+/// Writes the bytes that are sent, or that the request waits.
 pub fn put_out(text: &mut String, out: &HttpOut<'_>) -> Result<(), AllocError> {
     if out.waits {
         text.push_str("waits")?;
@@ -56,7 +56,7 @@ pub fn put_out(text: &mut String, out: &HttpOut<'_>) -> Result<(), AllocError> {
     Ok(())
 }
 
-/// What is sent for an outcome on an open connection.
+/// Writes the bytes that are sent for an outcome on an open connection.
 fn put_answer(
     text: &mut String,
     http: &mut HttpBind,
@@ -71,7 +71,7 @@ fn put_answer(
     put_out(text, &http.answered(c, outcome, 0, &mut out, &mut word))
 }
 
-/// What is sent for an outcome of the request that a new connection brings.
+/// Writes the bytes that are sent for an outcome of the request that a new connection brings.
 fn put_reply(
     text: &mut String,
     alloc: Global,

@@ -1,5 +1,5 @@
-//! Heads of HTTP replies: the status, and of `type`, `etag`, `location`, `allow`, `length` and `close` what a reply has, each
-//! after ` | `; and the bytes of the head.
+//! Heads of HTTP replies: the status, and those of `type`, `etag`, `location`, `allow`, `length` and `close` that a
+//! reply has, each after ` | `; and the bytes of the head.
 
 use crate::runs;
 use http_wire::{Reply, has_reason, put_reply};
@@ -13,7 +13,7 @@ fn status_of(field: Option<&str>) -> u16 {
     }
 }
 
-/// The same reply with what a field says.
+/// The same reply with the value of a field.
 fn with_field<'a>(reply: Reply<'a>, field: &'a str) -> Reply<'a> {
     let (name, value) = field.split_once(' ').unwrap_or((field, ""));
     match name {

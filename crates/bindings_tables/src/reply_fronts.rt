@@ -1,14 +1,14 @@
-//! HTTP: the bytes of a stream of replies, and what a client sees at its front, however many of them are there while the
-//! stream goes on, and of all of them once it ended. Whatever that is for the first bytes stands until another follows
-//! after ` | `, with the number of bytes from which on it is so; at first nothing is whole. Of more than 1,000 bytes the
-//! one place where that changes is found by binary search.
+//! HTTP: the bytes of a stream of replies, and a client's finding at its front, however many of them are there while
+//! the stream goes on, and of all of them once it ended. The finding for the first bytes stands until another follows
+//! after ` | `, with the number of bytes from which on it is so; at first nothing is whole. Of more than 1,000 bytes
+//! the one place where it changes is found by binary search.
 
 use crate::runs;
 use http_wire::{Body, ReplyScan, scan_reply};
 use std::alloc::{AllocError, Global};
 use std::fmt::Write;
 
-/// What is seen.
+/// A finding.
 #[derive(Clone, Copy, PartialEq, Eq)]
 enum Seen {
     Short,
@@ -18,7 +18,7 @@ enum Seen {
     TooLong,
 }
 
-/// What is seen of these bytes while the stream goes on.
+/// The finding for these bytes while the stream goes on.
 fn look(bytes: &[u8]) -> Seen {
     match scan_reply(bytes, false) {
         ReplyScan::Short => Seen::Short,
@@ -28,7 +28,7 @@ fn look(bytes: &[u8]) -> Seen {
     }
 }
 
-/// What is seen.
+/// Writes a finding.
 fn put_seen(text: &mut String, seen: Seen) -> Result<(), AllocError> {
     match seen {
         Seen::Short => text.push_str("short"),
@@ -38,10 +38,10 @@ fn put_seen(text: &mut String, seen: Seen) -> Result<(), AllocError> {
     }
 }
 
-/// More bytes than this aren't looked at for each number of them.
+/// The most bytes that are looked at for each number of them.
 const MANY: usize = 1000;
 
-/// From how many of these bytes on something is seen, found by binary search.
+/// The least number of these bytes at which something is seen, found by binary search.
 fn first_seen(bytes: &[u8]) -> usize {
     let mut low = 0usize;
     let mut high = bytes.len();
@@ -56,7 +56,7 @@ fn first_seen(bytes: &[u8]) -> usize {
     high
 }
 
-/// What is seen of many bytes, and from how many on.
+/// Writes the finding for many bytes, and the least number of bytes for it.
 fn put_change(text: &mut String, bytes: &[u8]) -> Result<(), AllocError> {
     if look(bytes) == Seen::Short {
         return Ok(());
@@ -67,7 +67,7 @@ fn put_change(text: &mut String, bytes: &[u8]) -> Result<(), AllocError> {
     text.push_str(" | ")
 }
 
-/// What is seen of more and more of these bytes, wherever that changes.
+/// Writes the findings for more and more of these bytes, wherever they change.
 fn put_changes(text: &mut String, bytes: &[u8]) -> Result<(), AllocError> {
     let mut last = Seen::Short;
     for end in 0..=bytes.len() {
@@ -95,7 +95,7 @@ fn put_reply(
     runs::put(text, bytes.as_slice())
 }
 
-/// What is seen of these bytes once the stream ended.
+/// Writes the finding for these bytes once the stream ended.
 fn put_ended(text: &mut String, alloc: Global, bytes: &[u8]) -> Result<(), AllocError> {
     text.push_str("ended ")?;
     match scan_reply(bytes, true) {

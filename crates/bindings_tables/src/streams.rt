@@ -1,5 +1,5 @@
-//! HTTP connections: the bytes of a stream, and what is sent, however they come: at once, in pieces of 1 and of 7
-//! bytes, and cut at any place; with the word `cut` before it also cut at any two places.
+//! HTTP connections: the bytes of a stream, and the bytes that are sent, however they come: at once, in pieces of 1 and
+//! of 7 bytes, and cut at any place; with the word `cut` before it also cut at any two places.
 
 ghost use Rattle.std.specs.Prelude.{◌<◌, ◌≤◌, OnOk, length};
 ghost use Rattle.http_bind.specs.Slots.{HasRoom};
@@ -17,7 +17,7 @@ const CONNECTION: u32 = 5;
 /// The longest piece that may come at once.
 const LONGEST_PIECE: usize = 4096;
 
-/// Hears a piece that isn't too long, and does what is then to be done.
+/// Hears a piece that isn't too long, and does the work that is then due.
 fn hear(
     http: &mut HttpBind,
     talk: &mut Talk,
@@ -78,7 +78,7 @@ fn hear_cut(
     hear(http, talk, room, stream.get(cut.second..).unwrap_or(b""))
 }
 
-/// A stream, and what is sent where it comes at once.
+/// A stream, and the bytes that are sent where it comes at once.
 #[derive(Clone, Copy)]
 struct Sent<'a> {
     stream: &'a [u8],
@@ -125,7 +125,7 @@ fn first_otherwise(
     Ok(None)
 }
 
-/// Says of cuts whether something else is sent, with all that they take lent.
+/// Says of cuts whether something else is sent. All is lent, since a function pays at each early exit for what it owns.
 fn put_cuts_in(
     text: &mut String,
     talk: &mut Talk,
@@ -158,7 +158,7 @@ fn put_cuts(
     put_cuts_in(text, &mut talk, room.as_mut_slice(), wanted, is_twice)
 }
 
-/// What is said where the stream comes in pieces of this many bytes, with the room lent.
+/// The talk where the stream comes in pieces of this many bytes, with the room lent.
 fn talk_in(alloc: Global, room: &mut [u8], stream: &[u8], size: usize) -> Result<Talk, AllocError>
     requires room { 24576 ≤ length room.old }
     requires size { 0 < size }
@@ -169,7 +169,7 @@ fn talk_in(alloc: Global, room: &mut [u8], stream: &[u8], size: usize) -> Result
     Ok(talk)
 }
 
-/// What is said where the stream comes in pieces of this many bytes.
+/// The talk where the stream comes in pieces of this many bytes.
 fn talk_in_pieces(alloc: Global, stream: &[u8], size: usize) -> Result<Talk, AllocError>
     requires { 0 < size }
 {
@@ -177,7 +177,7 @@ fn talk_in_pieces(alloc: Global, stream: &[u8], size: usize) -> Result<Talk, All
     talk_in(alloc, room.as_mut_slice(), stream, size)
 }
 
-/// What is sent for a stream.
+/// Writes the bytes that are sent for a stream.
 fn put_stream(
     text: &mut String,
     alloc: Global,

@@ -1,10 +1,10 @@
-//! What an HTTP server with one value says on its connections. The value is 7 at first: GET reads it, or gives the
+//! The talk of an HTTP server with one value on its connections. The value is 7 at first: GET reads it, or gives the
 //! query where there is one, PUT writes it, POST changes nothing, and no other method is taken. A request to a path of
 //! two segments of which the first is `waits` waits for the target whose number is the second, a digit; of one whose
-//! first segment is `versions` the second says which version the value has.
+//! first segment is `versions` the second says the version of the value.
 //!
-//! The room that requests are read in is lent to all functions here, since to take it anew for each message
-//! costs more than all else.
+//! The room in which requests are read is lent to all functions here, since to take it anew for each message costs more
+//! than all else.
 
 ghost use Rattle.std.specs.Prelude.{◌≡◌, ◌<◌, ◌≤◌, ◌⊎◌, Ok, false, IsSome, OnOk, length, IfSome};
 ghost use Rattle.http_bind.specs.Replying.{fault_word};
@@ -16,7 +16,7 @@ use std::alloc::{AllocError, Global};
 use thing_ops::{Outcome, Request, Verb};
 use wot_json::Bytes;
 
-/// The value, what was sent, and the moment.
+/// The value, the bytes that were sent, and the moment.
 #[derive(Drop)]
 pub struct Talk {
     pub alloc: Global,
@@ -54,7 +54,7 @@ impl Talk {
         self.sent.extend_from_slice(b"<closed>")
     }
 
-    /// Puts down what is sent.
+    /// Puts down a message that is sent.
     fn send(&mut self, out: &HttpOut<'_>) -> Result<(), AllocError> {
         self.sent.extend_from_slice(out.head)?;
         self.sent.extend_from_slice(out.body)?;
@@ -85,7 +85,7 @@ fn version_of(request: &Request<'_>) -> Option<u32> {
     str::from_utf8(digits).ok()?.parse::<u32>().ok()
 }
 
-/// What a request comes to.
+/// The outcome of a request.
 fn perform(request: &Request<'_>, talk: &mut Talk) -> Result<Outcome, AllocError> {
     match target_of(request) {
         Some(target) => Ok(Outcome::Wait(target)),
@@ -93,7 +93,7 @@ fn perform(request: &Request<'_>, talk: &mut Talk) -> Result<Outcome, AllocError
     }
 }
 
-/// What comes of what a request asks of the version, if it has one, and else of the value.
+/// The outcome by a request's conditions on the version, if there is one, and else by the value.
 fn judge(request: &Request<'_>, talk: &mut Talk) -> Result<Outcome, AllocError> {
     let tag = version_of(request);
     match tag {
@@ -110,7 +110,7 @@ fn reads(request: &Request<'_>) -> bool {
     matches!(request.verb, Verb::Get | Verb::Head)
 }
 
-/// Whether the version isn't what a request asks.
+/// Whether the version fails the conditions of a request.
 fn is_refused(request: &Request<'_>, version: u32) -> bool {
     if reads(request) {
         request.conditions.fails(version)
@@ -119,7 +119,7 @@ fn is_refused(request: &Request<'_>, version: u32) -> bool {
     }
 }
 
-/// What the one value is asked.
+/// The outcome of a request for the one value.
 fn perform_on_value(
     request: &Request<'_>,
     tag: Option<u32>,
@@ -146,7 +146,7 @@ fn perform_on_value(
     }
 }
 
-/// Puts down the refusal of what came on a connection, or the 100 reply.
+/// Puts down the refusal of a message on a connection, or the 100 reply.
 fn refuse(http: &mut HttpBind, c: u32, status: u16, talk: &mut Talk) -> Result<(), AllocError>
     requires connection { c < 64 }
     requires status { (status ≡ 100) ⊎ IsSome (fault_word status) }
@@ -180,7 +180,7 @@ pub fn wake(
     talk.send(&http.woken(c, text, talk.now, &mut out))
 }
 
-/// Does what is to be done next on a connection; false where that is nothing.
+/// Does the next work on a connection; false where there is none.
 fn turn(http: &mut HttpBind, c: u32, talk: &mut Talk, room: &mut [u8]) -> Result<bool, AllocError>
     requires connection { c < 64 }
     requires room { 24576 ≤ length room.old }
@@ -200,7 +200,7 @@ fn turn(http: &mut HttpBind, c: u32, talk: &mut Talk, room: &mut [u8]) -> Result
     Ok(true)
 }
 
-/// Does what is to be done on a connection, until nothing is left; more than 16 messages count as being out of memory.
+/// Does the work on a connection, until none is left; more than 16 messages count as being out of memory.
 pub fn handle(
     http: &mut HttpBind,
     c: u32,

@@ -1,4 +1,4 @@
-//! Request targets: bytes, the segments of their paths, and where their queries begin.
+//! Request targets: bytes, their paths, and the places at which their queries begin.
 
 use crate::runs;
 use http_wire::{TargetFault, segments};
@@ -13,7 +13,7 @@ fn put_segment(text: &mut String, segment: &[u8]) -> Result<(), AllocError> {
     text.push_str("]")
 }
 
-/// The segments of a path, `-` where there are none.
+/// Writes a path, `-` where it has no segments.
 pub fn put_path(text: &mut String, path: &Segments) -> Result<(), AllocError> {
     if path.is_empty() {
         return text.push_str("-");
@@ -24,7 +24,7 @@ pub fn put_path(text: &mut String, path: &Segments) -> Result<(), AllocError> {
     Ok(())
 }
 
-/// The segments of a path, and where the query begins.
+/// Writes a path, and the place at which the query begins.
 fn put_found(text: &mut String, path: &Segments, place: usize) -> Result<(), AllocError> {
     put_path(text, path)?;
     write!(text, " query at {place}")

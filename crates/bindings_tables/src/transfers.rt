@@ -1,6 +1,6 @@
-//! Steps of the CoAP server that are whole bodies in blocks: `read LENGTH SZX`, a description of this length that a host
-//! of its own reads in blocks of this size; and `write LENGTH SZX`, a body of this length that it writes in blocks. How
-//! many blocks there are is said, and whether each reply and the joined body are what they should be.
+//! Steps of the CoAP server that are whole bodies in blocks: `read LENGTH SZX`, a description of this length that a
+//! host of its own reads in blocks of this size; and `write LENGTH SZX`, a body of this length that it writes in
+//! blocks. The result says the number of blocks, and whether each reply and the joined body are as they should be.
 
 ghost use Rattle.std.specs.Prelude.{◌<◌, ◌≤◌};
 ghost use Rattle.thing_ops.specs.Outcomes.{HasCode};
@@ -33,7 +33,7 @@ struct Cut<'a> {
     szx: u8,
 }
 
-/// What comes of a block of a request.
+/// The outcome of a block of a request.
 #[derive(Clone, Copy, PartialEq)]
 enum Came {
     Joined,
@@ -69,7 +69,7 @@ fn goes_on(cut: Cut<'_>, number: usize) -> bool {
     number.saturating_add(1).saturating_mul(size_of(cut.szx)) < cut.body.len()
 }
 
-/// How many blocks a body has.
+/// The number of blocks of a body.
 fn count_of(cut: Cut<'_>) -> usize {
     cut.body.len().div_ceil(size_of(cut.szx))
 }
@@ -105,7 +105,7 @@ fn block_at(cut: Cut<'_>, number: usize) -> Block {
     }
 }
 
-/// How many bytes are sent back, where what is asked has this outcome.
+/// The number of bytes that are sent back, where an ask has this outcome.
 fn replied(
     server: &mut CoapBind,
     origin: Origin,
@@ -137,7 +137,7 @@ fn request_for(alloc: Global, szx: u8, number: usize) -> Result<Vec<u8>, AllocEr
     message_of(alloc, text.as_str())
 }
 
-/// Whether all blocks of what has this outcome are given as they should be.
+/// Whether all blocks of the payload of this outcome are given as they should be.
 fn each_is_given(
     alloc: Global,
     server: &mut CoapBind,
@@ -176,7 +176,7 @@ fn are_given(
     each_is_given(alloc, server, origin, cut, &outcome)
 }
 
-/// What comes of a datagram with a block of a request.
+/// The outcome of a datagram with a block of a request.
 fn taken(
     server: &mut CoapBind,
     origin: Origin,
@@ -215,7 +215,7 @@ fn taken(
     }
 }
 
-/// What comes of the block with this number of a request.
+/// The outcome of the block with this number of a request.
 fn written(
     alloc: Global,
     server: &mut CoapBind,
@@ -271,7 +271,7 @@ fn letters(alloc: Global, length: u64) -> Result<Vec<u8>, AllocError> {
     Ok(body)
 }
 
-/// What comes of a step with a body.
+/// Writes the result of a step with a body.
 fn put_transfer(
     text: &mut String,
     alloc: Global,
@@ -295,7 +295,7 @@ fn put_transfer(
     })
 }
 
-/// Does a step, and writes what comes of it.
+/// Does a step, and writes its result.
 pub fn put(
     text: &mut String,
     alloc: Global,

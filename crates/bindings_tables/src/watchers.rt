@@ -1,7 +1,6 @@
-//! Watchers of a CoAP server, of which there may be four, or as many as the first line of a history says
-//! (`capacity 2`). A step is `register ENDPOINT TOKEN TARGET`, the same N times as `again ENDPOINT TOKEN TARGET N`,
-//! `cancel ENDPOINT TOKEN`, `emit TARGET`, `acked ENDPOINT ID`, `reset ENDPOINT ID` or `next MOMENT ID`, and what it
-//! comes to.
+//! Observers of a CoAP server, of which there may be four, or as many as the first line of a history says (`capacity
+//! 2`). A step is `register ENDPOINT TOKEN TARGET`, the same N times as `again ENDPOINT TOKEN TARGET N`, `cancel
+//! ENDPOINT TOKEN`, `emit TARGET`, `acked ENDPOINT ID`, `reset ENDPOINT ID` or `next MOMENT ID`, and its result.
 
 ghost use Rattle.std.specs.Prelude.{◌≤◌, length};
 
@@ -12,7 +11,7 @@ use coap_observe::{Notice, Registered, Watchers};
 use std::alloc::{AllocError, Global};
 use std::fmt::Write;
 
-/// How many watchers there may be where a history doesn't say it.
+/// The number of observers that there may be where a history doesn't say it.
 const CAPACITY: u32 = 4;
 
 /// The target of a field.
@@ -25,7 +24,7 @@ fn id_of(field: Option<&str>) -> u16 {
     u16::try_from(number(field)).unwrap_or(0)
 }
 
-/// What a registration comes to.
+/// Writes the outcome of a registration.
 fn put_registered(text: &mut String, registered: Registered) -> Result<(), AllocError> {
     match registered {
         Registered::New(sequence) => write!(text, "new {sequence}"),
@@ -34,17 +33,17 @@ fn put_registered(text: &mut String, registered: Registered) -> Result<(), Alloc
     }
 }
 
-/// Whether something was found.
+/// Writes whether something was found.
 fn put_found(text: &mut String, found: bool) -> Result<(), AllocError> {
     text.push_str(if found { "found" } else { "nothing" })
 }
 
-/// Where a notice goes.
+/// Writes the endpoint to which a notification goes.
 pub fn put_endpoint(text: &mut String, to: Endpoint) -> Result<(), AllocError> {
     write!(text, "host{}:{} ", to.host, to.port)
 }
 
-/// A notice.
+/// Writes a notification.
 fn put_notice(text: &mut String, notice: &Notice) -> Result<(), AllocError> {
     put_endpoint(text, notice.to)?;
     put_bytes(text, notice.token.get(..notice.token_length).unwrap_or(&[]))?;
@@ -56,7 +55,7 @@ fn put_notice(text: &mut String, notice: &Notice) -> Result<(), AllocError> {
     )
 }
 
-/// What is sent next.
+/// Writes the next notification.
 fn put_next(text: &mut String, next: Option<Notice>) -> Result<(), AllocError> {
     match next {
         Some(notice) => put_notice(text, &notice),
@@ -64,7 +63,7 @@ fn put_next(text: &mut String, next: Option<Notice>) -> Result<(), AllocError> {
     }
 }
 
-/// Registers so many times: what the last of them comes to.
+/// Registers so many times, and writes the outcome of the last.
 fn register_times(
     watchers: &mut Watchers,
     from: Endpoint,
@@ -124,7 +123,7 @@ fn put_plain(text: &mut String, watchers: &mut Watchers, step: &str) -> Result<(
     }
 }
 
-/// Writes a step and what it comes to.
+/// Writes a step and its result.
 fn put_step(
     text: &mut String,
     alloc: Global,
@@ -142,7 +141,7 @@ fn put_step(
     text.push_str("\n")
 }
 
-/// How many watchers there may be in a history.
+/// The number of observers that there may be in a history.
 fn capacity_of(history: &str) -> u32
     ensures least { 1 ≤ result }
     ensures most { result ≤ 1024 }

@@ -1,4 +1,4 @@
--- How large a path is with a segment more.
+-- The size of a path with a segment more.
 use Rattle.std.proofs.Common.{◌≡◌, ◌+◌, ◌≤◌, ℕ, List, [], ◌∷◌, ◌++◌, length, ap, arith}
 use Rattle.coap_blocks.specs.Paths.{path_size}
 use Rattle.coap_blocks.proofs.Paths.{size-append}

@@ -6,7 +6,7 @@ use case_notation::bytes_of;
 use coap_msg::{Block, read_block, write_block};
 use std::alloc::{AllocError, Global};
 
-/// What is read.
+/// Writes the block that is read.
 fn put_read(text: &mut String, block: Option<Block>) -> Result<(), AllocError> {
     match block {
         Some(block) => put_block(text, block),
@@ -14,7 +14,7 @@ fn put_read(text: &mut String, block: Option<Block>) -> Result<(), AllocError> {
     }
 }
 
-/// What is written, after as many bytes of another kind.
+/// Writes the bytes that are written, after as many bytes of another kind.
 fn put_written(text: &mut String, given: &str) -> Result<(), AllocError> {
     let mut fields = given.split(' ').skip(1);
     let number = fields.next();
@@ -29,7 +29,7 @@ fn put_written(text: &mut String, given: &str) -> Result<(), AllocError> {
     }
 }
 
-/// What comes of a row.
+/// Writes the result of a row.
 fn put_row(text: &mut String, alloc: Global, given: &str) -> Result<(), AllocError> {
     put_given(text, given)?;
     match given.strip_prefix("read ") {

@@ -1,5 +1,5 @@
 //! Bodies of responses that are kept. A step is `MOMENT put HOST PATH CODE FORMAT TAG BYTES` or `MOMENT get HOST PATH`,
-//! and what is got; a format or a version that is none is `-`.
+//! and the body that is got; a format or a version that is none is `-`.
 
 ghost use Rattle.std.specs.Prelude.{◌≤◌};
 ghost use Rattle.coap_blocks.specs.Paths.{path_size};
@@ -15,7 +15,7 @@ use thing_ops::Segments;
 /// The most bytes of a body.
 const LONGEST: usize = 65_536;
 
-/// When a step is, and for which endpoint.
+/// The moment and the endpoint of a step.
 #[derive(Clone, Copy)]
 struct Head {
     moment: u64,
@@ -38,7 +38,7 @@ fn put_whole(text: &mut String, whole: &Whole<'_>) -> Result<(), AllocError> {
     put_runs(text, whole.bytes)
 }
 
-/// Writes what is got.
+/// Writes the body that is got.
 fn put_got(text: &mut String, got: Option<Whole<'_>>) -> Result<(), AllocError> {
     match got {
         Some(whole) => put_whole(text, &whole),
@@ -81,7 +81,7 @@ fn number_in(field: Option<&str>) -> Option<u32> {
     u32::try_from(number(field)).ok()
 }
 
-/// Writes what a step comes to.
+/// Writes the result of a step.
 fn put_step(
     text: &mut String,
     alloc: Global,

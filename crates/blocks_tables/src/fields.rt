@@ -10,7 +10,7 @@ use std::alloc::{AllocError, Global};
 use std::fmt::Write;
 use thing_ops::Segments;
 
-/// How often a byte must come in a row to be written once.
+/// The number of times that a byte must come in a row to be written once.
 const MANY: usize = 40;
 
 /// A number of 16 bits.
@@ -83,13 +83,13 @@ pub fn put_words(text: &mut String, line: &str) -> Result<(), AllocError> {
     text.push_str("\n")
 }
 
-/// Writes a row up to what comes of it.
+/// Writes a row up to its result.
 pub fn put_given(text: &mut String, given: &str) -> Result<(), AllocError> {
     text.push_str(given)?;
     text.push_str(" => ")
 }
 
-/// A byte, and how often it comes in a row.
+/// A byte, and the number of times that it comes in a row.
 #[derive(Clone, Copy)]
 struct Run {
     byte: u8,
@@ -108,7 +108,7 @@ fn put_run(text: &mut String, run: Run) -> Result<(), AllocError> {
     Ok(())
 }
 
-/// Writes bytes, in which one that comes many times in a row is written once, with how often it comes: `x\*300;`.
+/// Writes bytes, in which one that comes many times in a row is written once, with the number of times: `x\*300;`.
 pub fn put_runs(text: &mut String, bytes: &[u8]) -> Result<(), AllocError> {
     if bytes.is_empty() {
         return text.push_str("-");

@@ -1,9 +1,10 @@
 //! Tables of block-wise transfer (RFC 7959): the values of Block options, the bodies of responses that are kept, the
-//! bodies of requests that are joined, and what a client joins. Each argument names a file: the table of that name.
+//! bodies of requests that are joined, and the bodies that a client joins. Each argument names a file: the table of
+//! that name.
 //!
-//! A row is what is given, ` => `, and what comes of it. The program prints each row with what does come of it, and
-//! each other line as it is: so it prints its files, if all is right. The rows of `blocks` stand alone. In the others
-//! rows are steps of a history, which begins at the top and anew after each empty line.
+//! A row is an input, ` => `, and its result. The program prints each row with the result that comes, and each other
+//! line as it is: so it prints its files, if all is right. The rows of `blocks` stand alone. In the others rows are
+//! steps of a history, which begins at the top and anew after each empty line.
 #![tactic(auto)]
 
 mod blocks;

@@ -1,5 +1,5 @@
-//! Bodies of requests that come in blocks. A step is `MOMENT add HOST CODE PATH NUMBER more|last SZX BYTES`, and what
-//! is answered; or the same as `act`, where a part that completes is cleared.
+//! Bodies of requests that come in blocks. A step is `MOMENT add HOST CODE PATH NUMBER more|last SZX BYTES`, and the
+//! answer; or the same as `act`, where a part that becomes whole is cleared.
 
 ghost use Rattle.std.specs.Prelude.{◌≡◌, ◌≤◌, ◌<◌, ℕ, length};
 ghost use Rattle.coap_msg.specs.Blocks.{IsBlock};
@@ -12,7 +12,7 @@ use coap_msg::{Block, Endpoint};
 use std::alloc::{AllocError, Global};
 use thing_ops::Segments;
 
-/// A block that comes, but for its path and payload, and whether what completes is cleared.
+/// A block that comes, but for its path and payload, and whether a part that becomes whole is cleared.
 #[derive(Clone, Copy)]
 struct Head {
     moment: u64,
@@ -22,7 +22,7 @@ struct Head {
     block: Block,
 }
 
-/// Takes away what completed.
+/// Takes away a part that is whole.
 fn clear(parts: &mut Parts, added: Added)
     requires { (place : ℕ) → added ≡ Added.Complete place → place < length parts.old }
 {
@@ -32,7 +32,7 @@ fn clear(parts: &mut Parts, added: Added)
     }
 }
 
-/// Writes what is answered, with the body of what completed.
+/// Writes the answer, with the body of a part that is whole.
 fn put_added(text: &mut String, parts: &Parts, added: Added) -> Result<(), AllocError>
     requires { (place : ℕ) → added ≡ Added.Complete place → place < length parts.now }
 {
@@ -49,7 +49,7 @@ fn put_added(text: &mut String, parts: &Parts, added: Added) -> Result<(), Alloc
     }
 }
 
-/// Adds a block, and writes what is answered.
+/// Adds a block, and writes the answer.
 fn put_block(
     text: &mut String,
     parts: &mut Parts,
@@ -68,7 +68,7 @@ fn put_block(
     Ok(())
 }
 
-/// Writes what a step comes to.
+/// Writes the result of a step.
 fn put_step(
     text: &mut String,
     alloc: Global,

@@ -1,5 +1,5 @@
-//! What a client joins. A step is `take NUMBER more|last SZX BYTES`, or `take none BYTES` for a response without
-//! Block2, and what is answered.
+//! The bodies that a client joins. A step is `take NUMBER more|last SZX BYTES`, or `take none BYTES` for a response
+//! without Block2, and the answer.
 
 ghost use Rattle.std.specs.Prelude.{IfSome};
 ghost use Rattle.coap_msg.specs.Blocks.{IsBlock};
@@ -10,7 +10,7 @@ use coap_client::{Taken, Transfer};
 use coap_msg::Block;
 use std::alloc::{AllocError, Global};
 
-/// Writes what is answered, with the body of what completed.
+/// Writes the answer, with the body that is whole.
 fn put_taken(text: &mut String, transfer: &Transfer, taken: Taken) -> Result<(), AllocError> {
     match taken {
         Taken::Broken => text.push_str("broken"),
@@ -26,7 +26,7 @@ fn put_taken(text: &mut String, transfer: &Transfer, taken: Taken) -> Result<(),
     }
 }
 
-/// Takes a payload, and writes what is answered.
+/// Takes a payload, and writes the answer.
 fn put_payload(
     text: &mut String,
     transfer: &mut Transfer,
@@ -39,7 +39,7 @@ fn put_payload(
     put_taken(text, transfer, taken)
 }
 
-/// Writes what a step comes to.
+/// Writes the result of a step.
 fn put_step(
     text: &mut String,
     alloc: Global,

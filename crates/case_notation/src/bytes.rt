@@ -1,5 +1,5 @@
-//! Bytes as text: a byte stands for itself, `\r`, `\n`, `\t`, `\\` and `\xHH` for what they are in Rust, and `\*N;`
-//! after a byte lets it stand N times. `-` alone is no bytes.
+//! Bytes as text: a byte stands for itself, `\r`, `\n`, `\t`, `\\` and `\xHH` for the same as in Rust, and `\*N;` after
+//! a byte lets it stand N times. `-` alone is no bytes.
 
 ghost use Rattle.std.specs.Prelude.{◌<◌};
 
@@ -8,7 +8,7 @@ use std::fmt::Write;
 
 const DIGITS: [u8; 16] = *b"0123456789abcdef";
 
-/// What the next byte is part of.
+/// The part to which the next byte belongs.
 #[derive(Clone, Copy, Drop)]
 enum Part {
     Plain,
@@ -117,7 +117,7 @@ fn put_each(text: &mut String, bytes: &[u8]) -> Result<(), AllocError> {
     Ok(())
 }
 
-/// Writes bytes; how many they are, where there are more than 2,000.
+/// Writes bytes; their number, where there are more than 2,000.
 pub fn put(text: &mut String, bytes: &[u8]) -> Result<(), AllocError> {
     let size = bytes.len();
     match size {

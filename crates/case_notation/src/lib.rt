@@ -1,5 +1,5 @@
-//! How cases of tests are written, for the programs that read them from files and print them with their results: bytes
-//! as text (`bytes.rt`), and CoAP messages in words (`messages.rt`).
+//! The notation of test cases, for the programs that read them from files and print them with their results: bytes as
+//! text (`bytes.rt`), and CoAP messages in words (`messages.rt`).
 #![tactic(auto)]
 
 mod bytes;

@@ -9,8 +9,8 @@
 //! ```
 //!
 //! `/a/b` is two options Uri-Path, `/` alone none. An option is written by its name or `#` and its number; a blank in a
-//! value is `\x20`. What is no message is `bytes` and the bytes themselves. The bytes are laid out here by RFC 7252,
-//! section 3, and not by the encoder under test.
+//! value is `\x20`. Bytes that are no message are `bytes` and the bytes themselves. A message is laid out here by RFC
+//! 7252, section 3, and not by the encoder, since that is under test.
 
 use crate::bytes::{bytes_of, digit, number, put, put_digits};
 use crate::names::{Format, code_of, name_of, option_named, put_code, type_bits};
@@ -44,7 +44,7 @@ fn nibble(number: usize) -> u8 {
     }
 }
 
-/// Writes what stands for a delta or a length after the option's first byte.
+/// Writes the extended bytes of a delta or a length, after the option's first byte.
 fn extend(bytes: &mut Vec<u8>, number: usize) -> Result<(), AllocError> {
     match number {
         0..=12 => Ok(()),
@@ -239,7 +239,7 @@ fn put_body(text: &mut String, message: &Message<'_>) -> Result<(), AllocError> 
     put(text, message.payload)
 }
 
-/// Writes a message in words, and what is no message as its bytes.
+/// Writes a message in words, and other bytes as they are.
 ///
 /// # Errors
 ///

@@ -3,7 +3,7 @@
 use std::alloc::AllocError;
 use std::fmt::Write;
 
-/// How the value of an option is written.
+/// The way in which the value of an option is written.
 #[derive(Clone, Copy, PartialEq, Eq)]
 pub enum Format {
     /// A number, in as few bytes as it takes.

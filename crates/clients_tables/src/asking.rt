@@ -1,4 +1,4 @@
-//! What a client is asked, in words, and what it sends.
+//! The requests that a client is asked for, in words, and the messages that it sends.
 
 ghost use Rattle.std.specs.Prelude.{◌≤◌, ◌≢◌, ◌<◌, length, All, IfOk, IfSome};
 ghost use Rattle.coap_msg.specs.Blocks.{IsBlock};
@@ -11,7 +11,7 @@ use std::alloc::{AllocError, Global};
 use std::fmt::Write;
 use thing_ops::Segments;
 
-/// What is asked, in words.
+/// A request, in words.
 #[derive(Clone, Copy)]
 pub struct Asked<'a> {
     pub peer: Endpoint,
@@ -80,7 +80,7 @@ fn block_of(digits: Option<&str>) -> Option<Block>
     })
 }
 
-/// What is asked by the word of a step and the words after it.
+/// The request of the word of a step and the words after it.
 pub fn asked_of<'a>(word: &'a str, words: &'a str) -> Asked<'a> {
     let mut fields = words.splitn(4, ' ');
     let peer = endpoint_of(fields.next().unwrap_or(""));
@@ -114,7 +114,7 @@ fn code_of(method: &str) -> u8
     }
 }
 
-/// The segments of a path; one that is empty or too long is left out.
+/// The path of a text; a segment that is empty or too long is left out.
 pub fn path_of(alloc: Global, text: &str) -> Result<Segments, AllocError>
     ensures { IfOk result (λ path. All (λ segment. length segment ≤ 255) path) }
 {
@@ -127,7 +127,7 @@ pub fn path_of(alloc: Global, text: &str) -> Result<Segments, AllocError>
     Ok(path)
 }
 
-/// What is asked, of this path and with this payload.
+/// The request to this path and with this payload.
 pub fn ask_of<'a>(asked: Asked<'_>, path: &'a Segments, payload: &'a [u8]) -> Ask<'a>
     requires { All (λ segment. length segment ≤ 255) path.now }
     ensures { MayAsk (asking_of result) }

@@ -1,8 +1,8 @@
-//! Which form is used for an operation, and what is asked there.
+//! The form that is used for an operation, and the request to it.
 //!
 //! ```text
 //! given JSON                      members of a description, beside those that each has to have
-//! OPERATION NAME SCHEME => ..     what is chosen: method, scheme, host and port, the segments of the path in brackets, and
+//! OPERATION NAME SCHEME => ..     the choice: method, scheme, host and port, the segments of the path in brackets, and
 //!                                 `observing`; SCHEME is http, coap or any
 //! ```
 
@@ -30,7 +30,7 @@ fn put_segment(text: &mut String, segment: &[u8]) -> Result<(), AllocError> {
     text.push_str("]")
 }
 
-/// Writes the segments of a path.
+/// Writes a path, segment by segment.
 fn put_path(text: &mut String, path: &Segments) -> Result<(), AllocError> {
     for index in 0..path.len() {
         if let Some(segment) = path.get(index) {

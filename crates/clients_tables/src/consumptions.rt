@@ -27,7 +27,7 @@ use wot_consumer::{ChooseFault, Chosen, choose};
 use wot_json::Tree;
 use wot_terms::Op;
 
-/// How many bytes of output are kept.
+/// The most bytes of output that are kept.
 pub const MOST_OUTPUT: usize = 131_072;
 
 /// Writes an act.
@@ -110,7 +110,7 @@ fn value_in(words: &str) -> &str {
     given.splitn(3, ' ').last().unwrap_or("-")
 }
 
-/// How many values are awaited.
+/// The number of values that are awaited.
 fn count_in(words: &str) -> u32 {
     let word = words.split(' ').next().unwrap_or("");
     match word.split_once('*') {
@@ -119,7 +119,7 @@ fn count_in(words: &str) -> u32 {
     }
 }
 
-/// What is asked of a Thing.
+/// An operation that is asked of a Thing.
 #[derive(Drop)]
 struct Asked {
     tree: Tree,

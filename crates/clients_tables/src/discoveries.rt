@@ -1,4 +1,4 @@
-//! What the links of a server say of its Things, and asking for them with a network in memory.
+//! The Things to which the links of a server lead, and asking for these links with a network in memory.
 //!
 //! ```text
 //! server HOST PORT => URL                 the URL of the server there

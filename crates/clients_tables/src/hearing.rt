@@ -1,4 +1,4 @@
-//! What comes to a client and what is due, and its news and what it sends.
+//! The messages that come to a client and are due, its news, and the messages that it sends.
 
 ghost use Rattle.std.specs.Prelude.{◌≤◌};
 

@@ -36,7 +36,7 @@ fn path_of(alloc: Global, text: &str) -> Result<Segments, AllocError> {
     Ok(path)
 }
 
-/// What is asked, in words.
+/// A request, in words.
 fn chosen_of(alloc: Global, verb: &str, words: &str) -> Result<Chosen, AllocError> {
     let mut fields = words.splitn(3, ' ');
     let host = fields.next().unwrap_or("");

@@ -18,7 +18,7 @@ use wot_consumer::{ChooseFault, choose, judge_input, judge_output};
 use wot_json::Tree;
 use wot_terms::Op;
 
-/// What is judged, in words.
+/// A value that is judged, in words.
 #[derive(Clone, Copy)]
 struct Row<'a> {
     direction: &'a str,

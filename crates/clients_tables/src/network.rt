@@ -23,7 +23,7 @@ use wot_json::Bytes;
 /// The latest moment of an event.
 const LAST_MOMENT: u64 = 1_000_000_000_000_000;
 
-/// How many connections there are.
+/// The number of connections.
 const CONNECTIONS: u64 = 64;
 
 /// The most bytes of one event on a connection.
@@ -32,7 +32,7 @@ const MOST_BYTES: usize = 4096;
 /// The most bytes of a datagram.
 const LONGEST_DATAGRAM: usize = 2048;
 
-/// What came on a connection, in words, with this many bytes.
+/// The event on a connection, in words, with this many bytes.
 fn what_of(word: &str, connection: u64, size: usize) -> What
     ensures { MayCome result }
 {

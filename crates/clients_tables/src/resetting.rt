@@ -10,7 +10,7 @@ use coap_msg::{Endpoint, LONGEST_MESSAGE};
 use std::alloc::{AllocError, Global};
 use std::fmt::Write;
 
-/// What is known of the requests so far.
+/// The counts of the requests so far.
 #[derive(Clone, Copy)]
 struct Counts {
     sent: u64,
@@ -55,7 +55,7 @@ fn ask_once(client: &mut Client, now: u64, peer: Endpoint, ask: &Ask<'_>) -> Opt
     })
 }
 
-/// What is known after one more.
+/// The counts after one more.
 fn with_once(counts: Counts, once: Once) -> Counts {
     let is_first = counts.sent == 0;
     Counts {
@@ -82,7 +82,7 @@ fn counts_of(client: &mut Client, now: u64, peer: Endpoint, ask: &Ask<'_>, times
     counts
 }
 
-/// What is known of the requests.
+/// Writes the counts of the requests.
 fn put_counts(text: &mut String, counts: Counts) -> Result<(), AllocError> {
     let order = if counts.in_order { "each" } else { "not each" };
     write!(

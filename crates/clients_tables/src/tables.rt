@@ -30,7 +30,7 @@ fn put_row(
     }
 }
 
-/// What the rows after a line are about.
+/// The text that the rows after a line are about.
 fn shared_after<'a>(line: &'a str, shared: &'a str) -> &'a str {
     line.strip_prefix("given ").unwrap_or(shared)
 }

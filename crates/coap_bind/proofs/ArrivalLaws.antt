@@ -1,4 +1,4 @@
--- How the history of a server goes on by what it hears.
+-- The history of a server goes on by each datagram that it hears.
 use Rattle.std.proofs.Common.{◌≡◌, ℕ, ◌≤◌, ◌∙◌, false, List, [], ◌∷◌, ◌++◌, refl, ap, subst}
 use Rattle.coap_msg.specs.declared.endpoint.Endpoint.{Endpoint}
 use Rattle.coap_msg.specs.Grammar.{CoapMessage}
@@ -41,9 +41,9 @@ hearing_goes_on capacity history s t from bytes now heard did early hears =
       hears_moment from bytes now heard s t hears early,
     )
 
--- ---- what is asked for was admitted
+-- ---- a request that is asked was admitted
 
--- what met a free slot was admitted
+-- a request that met a free slot was admitted
 fresh_is_admitted : (capacity : ℕ) (history : List Arrival) (s u : Server) (from : Endpoint) (bytes : List ℕ) (now : ℕ) (m : CoapMessage) (slot : ℕ)
     → Did capacity history s → s.exchanges.moment ≤ now → IsMet from bytes now m (Fresh slot) s u
     → admitted_among capacity (history ++ arrival from now m ∷ []) ≡ admitted_among capacity history ++ arrival from now m ∷ []

@@ -100,7 +100,7 @@ tidy_hears from bytes now heard s t (admitted m slot u met reads) h =
     tidy_reads from now m slot heard u t (record { arrival = arrival from now m; slot = slot; reply = None }) reads (fresh_is_there from bytes now m slot s u met) refl
     (tidy_meets now s.exchanges u.exchanges (arrival from now m) (Fresh slot) refl met.meets h)
 
--- a server that is to reply to what was asked
+-- a server that is to reply to a request
 abbrev pub ready : PendingReply → Outcome → Watching → Server → Server
 ready ask o watchers s = with_bodies (bodies_after ask.blocks ask.from o s.bodies) (with_watchers watchers s)
 

@@ -118,7 +118,7 @@ capacity_stays t a (Fresh slot) u h = ap (λ (w : Table). w.capacity) h.1.2
 capacity_stays t a (Repeat kept) u h = ap (λ (w : Table). w.capacity) h.1
 capacity_stays t a Full u h = ap (λ (w : Table). w.capacity) h.1.1
 
--- a request is one arrival, which met what the history says
+-- a request is one arrival, which met the verdict of the history
 after_request : (capacity : ℕ) (history new : List Arrival) (from : Endpoint) (bytes : List ℕ) (now : ℕ) (m : CoapMessage) (met : Met) (s u : Server)
     → IsMet from bytes now m met s u → s.exchanges.moment ≤ now → AreArrivals from bytes now new → Follows capacity history s.exchanges
     → Follows capacity (history ++ new) u.exchanges
@@ -186,7 +186,7 @@ verdict_at : (b : Bool) (v : Verdict) → b ≡ true → (if b then is_duplicate
 verdict_at true v e = refl
 verdict_at false v e = cc
 
--- what a duplicate of a request that was admitted and lives meets
+-- the verdict on a duplicate of a request that was admitted and lives
 pub met_as_duplicate : (capacity : ℕ) (history : List Arrival) (s : Server) (u : Table) (a earlier : Arrival) (met : Met) → Did capacity history s → s.exchanges.moment ≤ a.moment
     → Contains (admitted_among capacity history) earlier → is_duplicate_of a earlier ≡ true → Meets (at_moment a.moment s.exchanges) a met u → IsVerdict met is_duplicate
 met_as_duplicate capacity history s u a earlier met did later has again meets =

@@ -1,4 +1,4 @@
--- How long replies and notifications are, and that they fit their room.
+-- The lengths of replies and notifications; they fit their room.
 use Rattle.std.proofs.Common.{◌≡◌, ℕ, ◌+◌, ◌*◌, ◌-◌, ◌≤◌, ◌<◌, ◌⊎◌, ◌∙◌, ◌||◌, Bool, true, false, inl, inr, Option, Some, None, List, [], ◌∷◌, ◌++◌, length, drop, refl, sym, ap, subst, arith, append_assoc, length-append, length-take, length-drop}
 use Rattle.std.specs.Prelude.{nat_lt, All, IfSome, Result, Ok, Err, OnErr, if◌then◌else◌}
 use Rattle.std.proofs.lemmas.List.{append-nil}
@@ -154,12 +154,12 @@ tag_length (Some v) os n rest =
     let r = rest 4 (omega arith) in
     omega arith
 
--- what follows some options is no longer than all
+-- the options after some of them are no longer than all
 behind : (last n : ℕ) (os ps : List CoapOption) → length (options_spelling last (os ++ ps)) ≤ n → (l : ℕ) × (length (options_spelling l ps) ≤ n)
 behind last n [] ps h = (last, h)
 behind last n (o ∷ os) ps h = let both = length-append (option_spelling last o) (options_spelling o.0 (os ++ ps)) in behind o.0 n os ps (omega arith)
 
--- no segment is longer than the options, with what stands before them
+-- no segment is longer than the options, with the bytes before them
 pub segments_behind : (n : ℕ) (os ps : List CoapOption) (place : List (List ℕ)) (rest : List CoapOption)
     → length (options_spelling 0 (os ++ (ps ++ (segment_options LOCATION_PATH place ++ rest)))) ≤ n → All (λ segment. length segment ≤ n) place
 segments_behind n os ps place rest h =
@@ -169,8 +169,8 @@ segments_behind n os ps place rest h =
 
 -- ---- a whole reply
 
--- What is started has a short place, a short status and the shortest format, no version, and is no notification. Nothing
--- else has a place.
+-- A started action has a short place, a short status and the shortest format, no version, and is no notification. No
+-- other outcome has a place.
 pub record IsShortStart (o : Outcome) : Type 0 where
   pub few : length (place_of o) ≤ 4
   pub short : All (λ segment. length segment ≤ LONGEST_SEGMENT) (place_of o)
@@ -190,7 +190,7 @@ payload_length (b ∷ bytes) = omega arith
 pub all_lengths : (token options payload : List ℕ) → length (token ++ (options ++ payload)) ≡ length token + (length options + length payload)
 all_lengths token options payload = length-append token (options ++ payload) ∙ ap (λ n. length token + n) (length-append options payload)
 
--- what follows Observe has at most so many bytes, but for the option of a block
+-- the options after Observe have at most so many bytes, but for the option of a block
 abbrev rest_bound : Outcome → ℕ → Type 0
 rest_bound o n = (l : ℕ) → l ≤ 8 → length (options_spelling l (segment_options LOCATION_PATH (place_of o) ++ format_options o)) ≤ n
 
@@ -306,7 +306,7 @@ reply_at u o observe head next false e token place fits unobserved =
     part_fits o (portion_of u o) observe head next token (portion_short u o fits (under (most_bytes u o) (length (payload_of o)) false e refl)) unobserved
     (place_bound o place)
 
--- what is no notification registers nobody
+-- an outcome that may not be a notification registers nobody
 never_registers : (wants : Observing) (o : Outcome) (target : Option ℕ) (t : ℕ) → may_notify o ≡ false → effect_of wants o target ≡ effect.Registers t → ⊥
 never_registers observing.Unchanged o target t quiet is = absurd cc
 never_registers observing.Registers o target t quiet is = absurd (let wrong : effect.Nothing ≡ effect.Registers t = sym (ap (λ (b : Bool). if b then registering target else effect.Nothing) quiet) ∙ is in cc)
@@ -328,7 +328,7 @@ replies_fit ask o target s may place observe watchers watches =
     (λ quiet. no_sequence (effect_of ask.observing o target) ask.from ask.token s.watchers watchers observe watches
     (λ t. never_registers ask.observing o target t quiet))
 
--- ---- which of both a reply is
+-- ---- the two kinds of replies
 
 pub answer_is : (u : BlockUse) (o : Outcome) → length (payload_of o) ≤ most_bytes u o → answer_reply u o ≡ reply_with (portion_of u o) o
 answer_is u o few = let t : nat_lt (most_bytes u o) (length (payload_of o)) ≡ false = grind (arith, nat_tests) in ap (λ b. if b then long_reply else reply_with (portion_of u o) o) t
@@ -377,7 +377,7 @@ without_block b os ps qs n fits =
     let fewer = longer 0 (os ++ (ps ++ qs)) (block_options b) in
     omega arith
 
--- ---- what has room is written
+-- ---- a message that has room is written
 
 -- two parts
 pub both_written : (r q : Result (Unit {0}) NoRoom) (os ps : List CoapOption) (a b c : WrittenOptions) → PutsOptions os r a b → PutsOptions ps q b c

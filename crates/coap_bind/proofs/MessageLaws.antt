@@ -141,7 +141,7 @@ code_at : (b : Bool) (r : Reply) → IsResponse r.code → IsResponse (cond b lo
 code_at true r code = server_error 0 (omega arith)
 code_at false r code = code
 
--- what is said of an outcome has a code of a response
+-- the reply that says an outcome has a code of a response
 pub reply_code : (u : BlockUse) (o : Outcome) → HasCode o → IsResponse (answer_reply u o).code
 reply_code u o code = code_at (nat_lt (most_bytes u o) (length (payload_of o))) (reply_with (portion_of u o) o) (whole_code o code)
 

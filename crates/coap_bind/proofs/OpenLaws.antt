@@ -37,7 +37,7 @@ fresh_is_there from bytes now m slot s u met =
     ap (exchange_in slot) met.meets.1.2
     ∙ last_found slot (at_moment now s.exchanges).exchanges (record { arrival = arrival from now m; slot = slot; reply = None }) met.meets.1.1 (same_number slot)
 
--- what is asked of a request in a slot may be answered
+-- a request that has a slot and is asked may be answered
 open_at : (ask other : PendingReply) (s t u : Server) (e : Exchange) → ask ≡ other → t ≡ u → u.exchanges ≡ s.exchanges → exchange_in other.slot s.exchanges ≡ Some e → e.reply ≡ None
     → other.kind ≡ e.arrival.kind → IsOpen ask t
 open_at ask other s t u e same is exchanges there waits kind =

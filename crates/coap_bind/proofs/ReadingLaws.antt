@@ -45,7 +45,7 @@ pub no_fault_here : (os : List CoapOption) (e : AskFault) → e ≡ NoMemory
 no_fault_here os e same (inl h) = absurd (never_memory None os (h ∙ ap Some same))
 no_fault_here os e same (inr h) = h.0
 
--- ---- what is done
+-- ---- the treatment
 
 -- a fault is the first of the options, unless it is being out of memory
 no_other : (faults : List AskFault) (f : AskFault) → f ≢ NoMemory → (slice_get faults 0 ≡ Some f) ⊎ ((faults ≡ []) × (f ≡ NoMemory)) → slice_get faults 0 ≡ Some f

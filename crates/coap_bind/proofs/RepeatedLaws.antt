@@ -1,4 +1,4 @@
--- A duplicate is only answered by that which was sent first in reply to its request.
+-- A duplicate is only answered by the bytes that were sent first in reply to its request.
 use Rattle.std.proofs.Common.{◌≡◌, ◌≤◌, ◌⊎◌, ◌∙◌, cond, inl, inr, ℕ, Bool, true, false, Option, Some, None, List, [], ◌∷◌, ◌++◌, refl, sym, ap, subst}
 use Rattle.std.specs.Prelude.{◌==◌, find}
 use Rattle.std.specs.Option.{option_or}
@@ -176,9 +176,9 @@ nothing_kept t empty slot e reply found has = absurd (none (sym (ap (find (λ z.
     none : None ≡ Some e → ⊥
     none e' = cc
 
--- ---- what a duplicate is answered
+-- ---- the answer to a duplicate
 
--- it is answered by what is kept
+-- it is answered by the reply that is kept
 abbrev IsKept : RequestType → Option (List ℕ) → Heard → Type 0
 IsKept kind kept heard = (heard ≡ ignored) ⊎ ((reply : List ℕ) × (heard ≡ answered_at_once reply) × (kind ≡ Confirmable) × (kept ≡ Some reply))
 

@@ -27,7 +27,7 @@ use Rattle.coap_bind.specs.Transfers.{NamesNoBlock, RequestsWithoutBlocksAct, An
 use Rattle.thing_ops.specs.declared.outcome.Outcome.TheVariants.{Memory}
 use Rattle.coap_bind.specs.Writing.{Reply, reply_of, ReplyHead, head_of, head_in}
 
--- ---- what stays the same
+-- ---- the parts that stay the same
 
 used_parts : (kind : RequestType) (s : Server) → (with_id_used kind s).parts ≡ s.parts
 used_parts Confirmable s = refl
@@ -100,7 +100,7 @@ requests_without_blocks_act from now m slot heard s t none faultless apart (asks
 
 -- ---- parts
 
--- parts that calls lead to, in which what was whole is gone
+-- parts that calls lead to, in which each body that was whole is gone
 abbrev AreSpent : List Part → Type 0
 AreSpent parts = (calls : List Call) × Spends [] calls parts
 

@@ -1,4 +1,4 @@
--- How results say what is done with a datagram.
+-- Results that say the treatment of a datagram.
 use Rattle.std.proofs.Common.{ℕ, List, Option, Some, None, refl}
 use Rattle.coap_msg.specs.Grammar.{CoapMessage}
 use Rattle.coap_msg.specs.Written.{IsReplied}
@@ -17,7 +17,7 @@ tells_send ignored n old new h = absurd h
 tells_send (answered_at_once bytes) n old new h = (bytes, refl, h)
 tells_send (asked what request) n old new h = absurd h
 
--- a message that is written, if there is one, is what is sent back at once
+-- a message that is written, if there is one, is sent back at once
 pub tells_reply : (reply : Option CoapMessage) (n : Option ℕ) (old new : List ℕ) → IsReplied reply n old new → TellsDone (replied_at_once reply) n old new
 tells_reply None None old new h = h
 tells_reply None (Some n) old new h = absurd h

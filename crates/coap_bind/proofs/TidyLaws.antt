@@ -11,7 +11,7 @@ use Rattle.coap_observe.proofs.Counts.{found_passes}
 use Rattle.coap_observe.proofs.Found.{found_filter}
 use Rattle.coap_bind.specs.Duplicates.{may_keep}
 
--- ---- what is meant
+-- ---- definitions
 
 -- two exchanges, the earlier one first, have different slots and aren't one exchange
 abbrev pub Differ : Exchange → Exchange → Type 0
@@ -31,11 +31,11 @@ abbrev pub Before : List Exchange → Exchange → Type 0
 Before [] e = Unit {0}
 Before (x ∷ xs) e = Differ x e × Before xs e
 
--- what is kept may be
+-- each reply that is kept may be kept
 abbrev pub KeptWell : List Exchange → Type 0
 KeptWell es = AllByRecursion (λ e. may_keep e.arrival.kind e.reply ≡ true) es
 
--- ---- what lives still
+-- ---- exchanges that live still
 
 apart_filter_at : (p : Exchange → Bool) (x y : Exchange) (ys : List Exchange) (b : Bool) → Differ x y → Apart x (filter p ys) → Apart x (cond b (y ∷ filter p ys) (filter p ys))
 apart_filter_at p x y ys true d rest = (d, rest)
@@ -75,7 +75,7 @@ pub kept_push : (xs : List Exchange) (e : Exchange) → KeptWell xs → may_keep
 kept_push [] e h new = (new, tt)
 kept_push (x ∷ xs) e h new = (h.0, kept_push xs e h.1 new)
 
--- what isn't found fails the test everywhere
+-- a test by which nothing is found fails everywhere
 fails_at : (x : Exchange) (found : Option Exchange) (b : Bool) → cond b (Some x) found ≡ None → (b ≡ false) × (found ≡ None)
 fails_at x found true e = absurd (some e)
   where
@@ -203,7 +203,7 @@ duplicated_in a [] slot e h found again = absurd (none found)
 duplicated_in a (x ∷ xs) slot e h found again =
     duplicated_at a x xs slot e (x.slot == slot) refl h.0 found again (λ later. duplicated_in a xs slot e h.1 later again)
 
--- ---- what is in a slot later
+-- ---- the exchange that is in a slot later
 
 -- the one in a slot stays there while it passes
 pub in_slot_filter : (p : Exchange → Bool) (xs : List Exchange) (slot : ℕ) (e : Exchange) → find (λ z. z.slot == slot) xs ≡ Some e → p e ≡ true
@@ -268,7 +268,7 @@ this_slot slot bytes [] e found = absurd (none found)
     none found' = cc
 this_slot slot bytes (x ∷ xs) e found = this_slot_at slot bytes x xs e (x.slot == slot) refl found (λ later. this_slot slot bytes xs e later)
 
--- what is kept stays well, where the one in the slot is Confirmable
+-- the replies that are kept may still be, where the one in the slot is Confirmable
 kept_answered_at : (slot : ℕ) (bytes : List ℕ) (x : Exchange) (b : Bool) → may_keep x.arrival.kind x.reply ≡ true → (b ≡ true → x.arrival.kind ≡ Confirmable)
     → may_keep (if b then record x { reply = Some bytes } else x).arrival.kind (if b then record x { reply = Some bytes } else x).reply ≡ true
 kept_answered_at slot bytes x true well con = ap (λ k. may_keep k (Some bytes)) (con refl)
@@ -305,7 +305,7 @@ kept_answered slot bytes [] e distinct well found con = tt
 kept_answered slot bytes (x ∷ xs) e distinct well found con =
     kept_split slot bytes x xs e (x.slot == slot) refl distinct.0 well.0 well.1 found con (λ later. kept_answered slot bytes xs e distinct.1 well.1 later con)
 
--- ---- what was in a slot before
+-- ---- the exchange that was in a slot before
 
 in_slot_unfilter_at : (p : Exchange → Bool) (x : Exchange) (xs : List Exchange) (slot : ℕ) (e : Exchange) (b c : Bool) → p x ≡ c → (x.slot == slot) ≡ b → Apart x (filter p xs)
     → find (λ z. z.slot == slot) (cond c (x ∷ filter p xs) (filter p xs)) ≡ Some e
@@ -326,14 +326,14 @@ in_slot_unfilter_at p x xs slot e true false t here apart found rest =
     slots m n one two three = grind (arith, nat_tests)
 in_slot_unfilter_at p x xs slot e false false t here apart found rest = rest found
 
--- what is in a slot among those that pass was in it among all
+-- an exchange that is in a slot among those that pass was in it among all
 pub in_slot_unfilter : (p : Exchange → Bool) (xs : List Exchange) (slot : ℕ) (e : Exchange) → Distinct xs → find (λ z. z.slot == slot) (filter p xs) ≡ Some e
     → find (λ z. z.slot == slot) xs ≡ Some e
 in_slot_unfilter p [] slot e distinct found = found
 in_slot_unfilter p (x ∷ xs) slot e distinct found =
     in_slot_unfilter_at p x xs slot e (x.slot == slot) (p x) refl refl (apart_filter p x xs distinct.0) found (λ later. in_slot_unfilter p xs slot e distinct.1 later)
 
--- what is in a slot after a reply was in it before, or it is the exchange of the reply
+-- an exchange that is in a slot after a reply was in it before, or it is the exchange of the reply
 abbrev pub WasIn : ℕ → ℕ → List ℕ → List Exchange → Exchange → Type 0
 WasIn slot other bytes xs e =
     (find (λ z. z.slot == slot) xs ≡ Some e) ⊎ ((f : Exchange) × (find (λ z. z.slot == slot) xs ≡ Some f) × ((slot == other) ≡ true) × (e ≡ record f { reply = Some bytes }))

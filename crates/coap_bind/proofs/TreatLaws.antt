@@ -39,7 +39,7 @@ wanted_is p code what m w r is = sym (λ i. wanted_of (r.code_is i) (r.observing
 path_is : {a b : PlainAsk} → a ≡ b → (is : Bool) → is_links_path a.request.path ≡ is → is_links_path b.request.path ≡ is
 path_is {a} {b} same is h = subst (λ (x : PlainAsk). is_links_path x.request.path ≡ is) same h
 
--- a request that was read, once it is known what it wants of the watchers
+-- a request that was read, once its wish for the observers is known
 pub is_read : (p : PendingReply) (o : Observing) (what : PlainAsk) (m : CoapMessage) → head_in p ≡ head_of m → what ≡ what_is_asked m → faults_of m.options ≡ []
     → o ≡ observing_of m.code what.observe → IsReadOf (record p { observing = o }) m.code what m
 is_read p o what m head what_is none is = record {
@@ -65,7 +65,7 @@ pending_is p m u v head observing same = λ i. record {
   blocks = same i;
 }
 
--- what is pending of a request that wants an act
+-- the pending reply to a request that wants an act
 abbrev pub asked_pending : PendingReply → ℕ → ℕ → PlainAsk → PendingReply
 asked_pending p now code what = record p { blocks = use_of now code p.observing what }
 
@@ -84,7 +84,7 @@ treat_out_of_memory p now code what m n old new s t r h =
 
 -- ---- the links
 
--- a request with this head that wants this of the watchers and asks this was replied to with the links
+-- a request with this head that wants this of the observers and asks this was replied to with the links
 abbrev LinksReplied : PendingReply → ℕ → Observing → PlainAsk → ReplyHead → List ℕ → Server → Server → Type 0
 LinksReplied p now o a head bytes s t =
     Replies (links_reply (size_asked o a) s.links) head p.slot bytes (links_given p.from now head.token o a s) t
@@ -125,7 +125,7 @@ block_of p now code b what = record {
   moment = now;
 }
 
--- what was added is the block of the request that was read
+-- the block that was added is that of the request that was read
 pub added_of : (p : PendingReply) (now code : ℕ) (what : PlainAsk) (m : CoapMessage) (b : Block) (s : Server) (added : Added) (parts : List Part) → IsReadOf p code what m
     → wanted_of code p.observing what ≡ wanted.Joining b → Gives (after_block (block_of p now code b what) (living now s.parts)) added parts
     → IsAdded p now what m b added s (with_parts parts s)
@@ -147,7 +147,7 @@ added_of p now code what m b s added parts r joining gives_parts =
       after = refl;
     }
 
--- what becomes whole is in its place, and short
+-- a body that becomes whole is in its place, and short
 pub has_whole : (a : Arrival) (parts after : List Part) (added : Added) → Gives (after_block a parts) added after
     → ((place : ℕ) → added ≡ Complete place → place < length after) → HasWhole added after
 has_whole a parts after added gives_parts within = λ place is.
@@ -169,7 +169,7 @@ treat_no_body p now what m b place n old new s u t links h r =
     (takes_no_body b place u.parts r.faultless r.wanted (path_is r.what_is true links) r.adds refl refl)
     (subst (λ (x : Server). RepliesAs method_reply p n old new (with_parts (remove u.parts place) x) t) r.after h)
 
--- what is answered, in as many bytes
+-- a block that is answered, in as many bytes
 pub treat_answered : (p : PendingReply) (now : ℕ) (what : PlainAsk) (m : CoapMessage) (b : Block) (added : Added) (n : ℕ) (answer : Result ℕ ℕ) (old new : List ℕ) (s u t : Server)
     → AnswersBlock p what.request.path b added answer old new u t → answer ≡ Err n → IsAdded p now what m b added s u
     → ReadsAs p.from now m p.slot (Send n) old new s t
@@ -182,7 +182,7 @@ treat_answered p now what m b added n answer old new s u t (for_links place k is
     (treat_no_body p now what m b place k old new s u t links h (subst (λ (x : Added). IsAdded p now what m b x s u) is r))
 treat_answered p now what m b added n answer old new s u t (whole place is apart same_bytes same said) err r = absurd (cc)
 
--- what is found where a body is whole
+-- the findings where a body is whole
 pub record IsWhole (path : List (List ℕ)) (added : Added) (place : ℕ) (old new : List ℕ) (s t : Server) : Type 0 where
   pub added_is : added ≡ Complete place
   pub apart : is_links_path path ≡ false
@@ -208,7 +208,7 @@ part_there : (o : Option Part) (bytes : List ℕ) → option_map (λ p. p.bytes)
 part_there None bytes e = absurd cc
 part_there (Some p) bytes e = (p, refl, cc)
 
--- what is pending of a request that came in blocks
+-- the pending reply to a request that came in blocks
 abbrev pub whole_pending : PendingReply → Block → PendingReply
 whole_pending p b = record p { blocks = use_of_blocks.Joined b }
 
@@ -223,7 +223,7 @@ treat_whole p now what whole_ask ticket m b place bytes s u t apart is there who
     asks_whole b place u.parts part.0 r.faultless r.wanted (path_is r.what_is false apart) r.adds part.1
     (λ i. asked (what_of i) (which i)) (after ∙ ap (λ (x : Server). with_parts (remove u.parts place) x) r.after)
 
--- ---- the bounds of what is wanted
+-- ---- the bounds of a wish
 
 later_block_at : (b : Block) (x : Option Block) → IfSome x IsBlock → wanted_by_get x ≡ wanted.LaterBlock b → IsBlock b
 later_block_at b None fits e = absurd cc
@@ -285,11 +285,11 @@ use_fits now code o a h short = by_test (code == GET)
     by_test true = (szx_fits (block2_of o a) (block2_fits o a h), short)
     by_test false = tt
 
--- what is open may be answered
+-- a ticket that is open may be answered
 pub open_ticket : (ticket other : PendingReply) (t : Server) → ticket ≡ other → IsAwaited other.slot t.exchanges → length other.token ≤ 8 → IsUse other.blocks → MayAnswer ticket t
 open_ticket ticket other t same awaited token fits = subst (λ (a : PendingReply). MayAnswer a t) (sym same) (record { awaited = awaited; token = token; blocks = fits })
 
--- ---- what blocks are to the reply to an act
+-- ---- the part of blocks in the reply to an act
 
 pub whole_use : (now code : ℕ) (o : Observing) (a : PlainAsk) → code ≢ GET → use_of_blocks.Whole ≡ use_of now code o a
 whole_use now code o a other =

@@ -87,7 +87,7 @@ used_watchers : (kind : RequestType) (u : Server) → (with_id_used kind u).watc
 used_watchers Confirmable u = refl
 used_watchers NonConfirmable u = refl
 
--- ---- what was heard
+-- ---- the datagram that was heard
 
 some_fault : (m : CoapMessage) (f : AskFault) → slice_get (faults_of m.options) 0 ≡ Some f → faults_of m.options ≢ []
 some_fault m f e none = let no_fault : slice_get (faults_of m.options) 0 ≡ None = ap (λ l. slice_get l 0) none in absurd (cc)
@@ -104,7 +104,7 @@ ask_in a (asked what ask) = ask
 
 -- ---- the cases
 
--- a request that was admitted, and answered at once by a server that has changed, with these watchers
+-- a request that was admitted, and answered at once by a server that has changed, with these observers
 treated_at_once : (from : Endpoint) (bytes : List ℕ) (now : ℕ) (act : Option Acted) (back : List (List ℕ)) (s v u t : Server) (m : CoapMessage) (slot : ℕ) (r : Reply) (reply : List ℕ) (w : Watching)
     → IsMet from bytes now m (Fresh slot) s u → v.watchers ≡ w → v.exchanges ≡ u.exchanges → Replies r (head_of m) slot reply v t
     → (v.next_id ≡ u.next_id) → (t.watchers ≡ w → IsReplied from now m act r s.watchers t.watchers)
@@ -116,7 +116,7 @@ treated_at_once from bytes now act back s v u t m slot r reply w met watchers ex
     (ap (λ (x : Server). x.exchanges.exchanges) replies.after
     ∙ kept_exchanges (request_type m.kind) slot reply v (arrival from now m) (at_moment now s.exchanges) (exchanges ∙ met.meets.1.2) met.meets.1.1)
 
--- why a request was answered at once
+-- the cause for which a request was answered at once
 joining_is_no_act : (m : CoapMessage) (b : Block) → wanted_in m ≡ wanted.Joining b → wanted_in m ≢ wanted.Act
 joining_is_no_act m b is act = cc
 
@@ -134,7 +134,7 @@ why_replied from now m act r s parts none (joined b added faultless wants adds i
 why_replied from now m act r s parts none (takes_no_other_verb faultless wants links other is same) w = no_method links none w is
 why_replied from now m act r s parts none (takes_no_body b place whole faultless wants links adds is same) w = no_method links none w is
 
--- what is settled, and not asked for
+-- a datagram that is settled, and not asked for
 treated_settled : (from : Endpoint) (bytes : List ℕ) (now : ℕ) (h : Heard) (act : Option Acted) (back : List (List ℕ)) (s t : Server) → act ≡ None → back ≡ sent_back h
     → Hears from bytes now h s t → ((what : PlainAsk) (ask : PendingReply) → h ≡ asked what ask → ⊥) → IsTreated from bytes now act back s t
 treated_settled from bytes now h act back s t none is (settled (malformed f fault e same)) unasked =
@@ -198,7 +198,7 @@ treated_answered from bytes now act back s v u t a m slot ask reply met watchers
     (ap (λ (y : Server). y.exchanges.exchanges) replies.after
     ∙ kept_exchanges (request_type m.kind) slot reply x (arrival from now m) (at_moment now s.exchanges) (exchanges ∙ met.meets.1.2) met.meets.1.1)
 
--- what is asked of a request, and what waits for its answer
+-- a request that is asked, and the reply that waits for its outcome
 answered_ask : (from : Endpoint) (bytes : List ℕ) (now : ℕ) (act : Option Acted) (back : List (List ℕ)) (s u v t : Server) (a : Acted) (m : CoapMessage) (slot : ℕ) (reply : List ℕ)
     → IsMet from bytes now m (Fresh slot) s u → wanted_in m ≡ wanted.Act → a.what ≡ what_is_asked m → HasCode a.outcome → HasShortPlace a.outcome → v ≡ u
     → Answers (pending_of from now m slot) a.outcome a.target reply v t → act ≡ Some a → back ≡ reply ∷ [] → IsTreated from bytes now act back s t

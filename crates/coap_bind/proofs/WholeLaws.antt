@@ -14,7 +14,7 @@ use Rattle.coap_blocks.specs.Parts.{Arrival, Part, longest_request, most_parts, 
 use Rattle.coap_blocks.specs.declared.added.Added.{Added}
 use Rattle.coap_blocks.specs.declared.added.Added.TheVariants as answer
 
--- ---- what completes
+-- ---- bodies that are completed
 
 -- the part at a place is no longer than a request may be
 abbrev pub IsShortAt : ℕ → List Part → Type 0
@@ -101,7 +101,7 @@ path_is_short m bytes n number spells few =
       length-append (options_spelling 0 m.options) (payload_spelling m.payload),
     )
 
--- what is short enough for less room is for more
+-- a body that is short enough for less room is for more
 pub short_in_room : (o : Option Part) (n m : ℕ) → n ≤ m → IfSome o (λ p. length p.bytes ≤ n) → IfSome o (λ p. length p.bytes ≤ m)
 short_in_room None n m more short = tt
 short_in_room (Some p) n m more short = omega arith

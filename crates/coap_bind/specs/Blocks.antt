@@ -1,5 +1,5 @@
--- Blocks of bodies: what a request wants of them, and which part of a payload a reply has (RFC 7959, sections 2.1 to
--- 2.5 and 2.9). Blocks inside notifications are left out.
+-- Blocks of bodies: the wish of a request for them, and the part of a payload that a reply has (RFC 7959, sections 2.1
+-- to 2.5 and 2.9). Blocks inside notifications are left out.
 use Rattle.std.specs.Prelude.{◌≤◌, ◌+◌, ◌/◌, ◌==◌, ◌&&◌, ◌||◌, ℕ, nat_lt, nat_le, Bool, true, false, List, [], ◌∷◌, ◌++◌, length, take, drop, codes, unwrap_or, option_map, is_some, IfSome, Option, Some, None, if◌then◌else◌}
 use Rattle.coap_msg.specs.declared.block.Block.{Block}
 use Rattle.coap_msg.specs.declared.constants.TheConstants.{GET, POST, PUT, BLOCK1, BLOCK2, CONTENT_FORMAT, LONGEST_PAYLOAD}
@@ -25,7 +25,7 @@ use Rattle.coap_bind.specs.declared.observing.Observing.{Observing}
 use Rattle.coap_bind.specs.declared.observing.Observing.TheVariants as observing
 use Rattle.coap_bind.specs.Writing.{Reply, word_reply, long_reply, text_format, whole_reply}
 
--- ---- what a request wants
+-- ---- the wish of a request
 
 -- Block2 of a GET, which isn't read where the request is to register.
 abbrev pub block2_of : Observing → PlainAsk → Option Block
@@ -63,7 +63,7 @@ IsUse blocks.Whole = Unit {0}
 IsUse (blocks.Gives g) = IfSome g.szx (λ z. z ≤ 6) × (path_size g.path ≤ largest_path)
 IsUse (blocks.Joined b) = IsBlock b
 
--- ---- which part of a payload a reply has
+-- ---- the part of a payload that a reply has
 
 -- the option that says a block, of the response or of the request (section 2.1)
 abbrev pub option_of : BlockOption → CoapOption
@@ -80,7 +80,7 @@ abbrev pub with_block : Option BlockOption → List CoapOption → List CoapOpti
 with_block None os = os
 with_block (Some b) os = os ++ option_of b ∷ []
 
--- a part of a payload, and the option that says which it is
+-- a part of a payload, and the option that names it
 pub record Portion : Type 0 where
   pub block : Option BlockOption
   pub payload : List ℕ
@@ -111,7 +111,7 @@ is_in_blocks szx n = nat_lt (block_size (first_block szx)) n || (is_some szx && 
 abbrev pub given_portion : Option ℕ → List ℕ → Portion
 given_portion szx payload = if is_in_blocks szx (length payload) then portion_at (first_block szx) payload else all_of payload
 
--- the outcome is what is at the path: a value or a description
+-- the outcome is a representation of the resource at the path: a value or a description
 abbrev pub is_representation : Outcome → Bool
 is_representation (outcome.Content value tag) = true
 is_representation (outcome.Description description as_td) = true
@@ -121,7 +121,7 @@ is_representation _ = false
 abbrev pub success_option : Outcome → Block → Option BlockOption
 success_option o b = if (whole_reply o).code / 32 == 2 then Some (option.Block1 (record b { more = false })) else None
 
--- what a reply has of an outcome's payload
+-- the part of an outcome's payload that a reply has
 abbrev pub portion_of : BlockUse → Outcome → Portion
 portion_of blocks.Whole o = all_of (payload_of o)
 portion_of (blocks.Gives g) o = if is_representation o then given_portion g.szx (payload_of o) else all_of (payload_of o)

@@ -51,8 +51,8 @@ pub data IsRepliedTo (request : Arrival) (reply : List ℕ) (s t : Server) : Typ
   afterwards : (ask : PendingReply) (o : Outcome) (target : Option ℕ) (waiting : IsOpen ask s) → Answers ask o target reply s t
       → request ≡ waiting.exchange.arrival → IsRepliedTo request reply s t
 
--- What a duplicate of this type is answered, where the request of this type was replied to in these bytes: the same, where both
--- are Confirmable, and else nothing.
+-- The answer to a duplicate of this type, where the request of this type was replied to in these bytes: the same, where
+-- both are Confirmable, and else nothing.
 abbrev pub repeated : RequestType → RequestType → List ℕ → Heard
 repeated Confirmable Confirmable reply = answered_at_once reply
 repeated Confirmable NonConfirmable reply = ignored

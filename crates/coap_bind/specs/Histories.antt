@@ -1,4 +1,4 @@
--- How the history of a server goes on (RFC 7252, section 4.5).
+-- The history of a server, from one datagram to the next (RFC 7252, section 4.5).
 use Rattle.std.specs.Prelude.{◌≡◌, ◌≤◌, ℕ, true, List, [], ◌∷◌, ◌++◌}
 use Rattle.coap_msg.specs.declared.endpoint.Endpoint.{Endpoint}
 use Rattle.coap_msg.specs.Grammar.{CoapMessage, Spells}
@@ -9,7 +9,7 @@ use Rattle.coap_bind.specs.declared.server.Server.{Server}
 use Rattle.coap_bind.specs.Server.{is_request, arrival, Heard, asked, Hears}
 use Rattle.coap_bind.specs.Laws.{Did, AreArrivals}
 
--- Whatever a server hears, its history goes on by that, and its table is at no later moment.
+-- The history of a server goes on by each datagram that it hears, and its table is at no later moment.
 abbrev pub HearingGoesOn : Type 0
 HearingGoesOn =
     (capacity : ℕ) (history : List Arrival) (s t : Server) (from : Endpoint) (bytes : List ℕ) (now : ℕ) (heard : Heard)

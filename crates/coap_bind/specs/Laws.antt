@@ -27,24 +27,24 @@ pub record IsOpen (ask : PendingReply) (s : Server) : Type 0 where
   pub waits : exchange.reply ≡ None
   pub kind : ask.kind ≡ exchange.arrival.kind
 
--- What a server did since it held this: the requests that came, in their order, and what it holds now.
+-- The course of a server since it held this: the requests that came, in their order, and its contents now.
 pub data DidFrom (before : Server) : List Arrival → Server → Type 0 where
   nothing : DidFrom before [] before
   -- a datagram came
   heard_of : (history new : List Arrival) (s t : Server) (from : Endpoint) (bytes : List ℕ) (now : ℕ) (heard : Heard)
       → DidFrom before history s → s.exchanges.moment ≤ now → Hears from bytes now heard s t → AreArrivals from bytes now new
       → DidFrom before (history ++ new) t
-  -- what was asked was answered
+  -- a request that was asked was answered
   answered : (history : List Arrival) (s t : Server) (ask : PendingReply) (o : Outcome) (target : Option ℕ) (bytes : List ℕ)
       → DidFrom before history s → IsOpen ask s → Answers ask o target bytes s t → DidFrom before history t
   -- a target got a new value
   emitted : (history : List Arrival) (s t : Server) (target : ℕ) → DidFrom before history s → t ≡ with_emitted target s → DidFrom before history t
-  -- it was asked what is to be sent to watchers
+  -- it was asked for the notification to be sent now
   sent : (history : List Arrival) (s t : Server) (now : ℕ) (n : Option Notice) → DidFrom before history s → SendsNext now n s t → DidFrom before history t
   -- it was given the text of its links
   linked : (history : List Arrival) (s t : Server) (text : List ℕ) → DidFrom before history s → t ≡ with_links text s → DidFrom before history t
 
--- What a server in which n exchanges may live did so far, from its beginning.
+-- The course of a server in which n exchanges may live, from its beginning.
 abbrev pub Did : ℕ → List Arrival → Server → Type 0
 Did capacity history s = (watchers : ℕ) × DidFrom (start capacity watchers) history s
 
@@ -62,7 +62,7 @@ DuplicatesAskNothing =
     → is_duplicate_of (arrival from now m) earlier ≡ true
     → (what : PlainAsk) (ask : PendingReply) → ¬ (Hears from bytes now (asked what ask) s t)
 
--- The place of what was started has at most four segments, each of at most 255 bytes (section 5.10), and its status at
+-- The place of a started action has at most four segments, each of at most 255 bytes (section 5.10), and its status at
 -- most 100 bytes.
 abbrev pub HasShortPlace : Outcome → Type 0
 HasShortPlace (Started place status) = (length place ≤ 4) × All (λ segment. length segment ≤ LONGEST_SEGMENT) place × (length status ≤ 100)
@@ -73,7 +73,7 @@ abbrev pub AsksAreOpen : Type 0
 AsksAreOpen =
     (from : Endpoint) (bytes : List ℕ) (now : ℕ) (what : PlainAsk) (ask : PendingReply) (s t : Server) → Hears from bytes now (asked what ask) s t → IsOpen ask t
 
--- A reply has at most 1,152 bytes (RFC 7252, section 4.6), with a tag and without, whatever the watchers are, in blocks
--- and whole, unless the place of what was started is long.
+-- A reply has at most 1,152 bytes (RFC 7252, section 4.6), with a tag and without, whatever the observers are, in
+-- blocks and whole, unless the place of a started action is long.
 abbrev pub RepliesFit : Type 0
 RepliesFit = (ask : PendingReply) (o : Outcome) (target : Option ℕ) (s : Server) → MayAnswer ask s → HasShortPlace o → HasRoom ask o target s

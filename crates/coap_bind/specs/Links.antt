@@ -35,9 +35,9 @@ links_reply szx text = if nat_lt longest_body (length text) then long_reply else
 abbrev pub method_reply : Reply
 method_reply = word_reply METHOD_NOT_ALLOWED (codes "method")
 
--- ---- what a GET leaves
+-- ---- the effects of a GET
 
--- The watchers: to deregister ends an observation on whatever path (RFC 7641, section 3.6), and nothing here can be
+-- The observers: to deregister ends an observation on whatever path (RFC 7641, section 3.6), and nothing here can be
 -- observed.
 abbrev pub watchers_with_links : Observing → Endpoint → List ℕ → Watching → Watching
 watchers_with_links observing.Unchanged from token w = w

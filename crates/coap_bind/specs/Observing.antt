@@ -1,4 +1,5 @@
--- The wish of a request for the watchers, and the effect of its answer on them (RFC 7641, sections 2, 3.1, 3.6 and 4.1).
+-- The wish of a request for the observers, and the effect of its answer on them (RFC 7641, sections 2, 3.1, 3.6 and
+-- 4.1).
 use Rattle.std.specs.Prelude.{◌≡◌, ◌==◌, ℕ, nat_le, Bool, true, false, List, length, Option, Some, None, if◌then◌else◌}
 use Rattle.coap_msg.specs.declared.constants.TheConstants.{GET, LONGEST_PAYLOAD}
 use Rattle.coap_msg.specs.declared.endpoint.Endpoint.{Endpoint}
@@ -36,7 +37,7 @@ abbrev pub registering : Option ℕ → Effect
 registering None = effect.Nothing
 registering (Some target) = effect.Registers target
 
--- What the answer does to the watchers, where a request with this outcome is for this target, if it is for one. To
+-- The effect of the answer on the observers, where a request with this outcome is for this target, if it is for one. To
 -- deregister ends an observation whatever comes of the request (section 3.6), but not where the server was out of
 -- memory.
 abbrev pub effect_of : Observing → Outcome → Option ℕ → Effect
@@ -44,7 +45,7 @@ effect_of observing.Unchanged o target = effect.Nothing
 effect_of observing.Registers o target = if may_notify o then registering target else effect.Nothing
 effect_of observing.Deregisters o target = if is_memory o then effect.Nothing else effect.Cancels
 
--- The watchers after that, for the endpoint and the token of the request; and the sequence number that the response
+-- The observers after that, for the endpoint and the token of the request; and the sequence number that the response
 -- says, where it says one: that of a registration for which there is room (section 4.1).
 pub data Watches (does : Effect) (from : Endpoint) (token : List ℕ) (old : Watching) (observe : Option ℕ) (new : Watching) : Type 0 where
   leaves : does ≡ effect.Nothing → observe ≡ None → new ≡ old → Watches does from token old observe new

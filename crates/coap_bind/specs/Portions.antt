@@ -1,4 +1,4 @@
--- Inside the crate: what the code has of a reply, apart from where it lies in memory.
+-- Inside the crate: the code's parts of a reply, apart from their places in memory.
 use Rattle.std.specs.Prelude.{Option, IfSome}
 use Rattle.coap_msg.specs.declared.block.Block.{Block}
 use Rattle.coap_msg.specs.Blocks.{IsBlock}

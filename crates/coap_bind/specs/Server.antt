@@ -1,16 +1,16 @@
--- A CoAP server as one machine (RFC 7252, sections 4.2 to 4.5 and 5.4; RFC 7641; RFC 7959): what it holds, and what
--- each datagram, each answer, each new value and each notification does to that.
+-- A CoAP server as one machine (RFC 7252, sections 4.2 to 4.5 and 5.4; RFC 7641; RFC 7959): its contents, and the
+-- effect of each datagram, each answer, each new value and each notification on them.
 --
--- What it holds is `Server` of src/server.rt: the `exchanges` that live, with the replies that are kept
+-- Its contents are `Server` of src/server.rt: the `exchanges` that live, with the replies that are kept
 -- (coap_exchange/specs/Table.antt), the `watchers` (coap_observe/specs/Watching.antt), `next_id`, the message ID of the
 -- next message that isn't an acknowledgement, the `bodies` of responses that are kept for their later blocks, and the
--- `parts`, the bodies of requests as far as their blocks came (coap_blocks/specs); and `links`, the text of the links that
--- it was given. What a request asks for is coap_opts/specs/Reading.antt, what it wants of the watchers is in
--- Observing.antt, what it wants of blocks in Blocks.antt, and what is said of the links in Links.antt; what a reply is on
--- the wire is in Writing.antt.
+-- `parts`, the bodies of requests as far as their blocks came (coap_blocks/specs); and `links`, the text of the links
+-- that it was given. The meaning of a request is in coap_opts/specs/Reading.antt, its wish for the observers in
+-- Observing.antt, its wish for blocks in Blocks.antt, and the links are in Links.antt; replies on the wire are in
+-- Writing.antt.
 --
--- The state is what the code holds, because a second relation between the code and a history would say no more: the law
--- `ExchangesAreOfTheHistory` ties the table to what came.
+-- The state is that of the code, because a second relation between the code and a history would say no more: the law
+-- `ExchangesAreOfTheHistory` ties the table to the requests that came.
 use Rattle.std.specs.Prelude.{◌≡◌, ◌≢◌, ℕ, ◌+◌, ◌%◌, ◌==◌, ◌&&◌, nat_lt, Bool, true, false, List, [], Option, Some, None, option_map, slice_get, if◌then◌else◌}
 use Rattle.std.specs.List.{remove}
 use Rattle.coap_msg.specs.declared.block.Block.{Block}
@@ -51,7 +51,7 @@ use Rattle.coap_bind.specs.Links.{is_links_path, size_asked, links_reply, method
 use Rattle.coap_bind.specs.Observing.{observing_of, effect_of, Watches}
 use Rattle.coap_bind.specs.Writing.{Reply, full_reply, proxy_reply, option_reply, reply_of, observed, ReplyHead, head_of, head_in, coap_reply}
 
--- A server to which nothing came yet, in which so many exchanges may live and so many watchers may be. Its message IDs
+-- A server to which nothing came yet, in which so many exchanges may live and so many observers may be. Its message IDs
 -- begin at 0 and not at a random number (docs/DECISIONS.md, "CoAP").
 abbrev pub start : ℕ → ℕ → Server
 start exchanges watchers = record { exchanges = empty_table exchanges; watchers = none_watch watchers; next_id = 0; bodies = []; parts = []; links = [] }
@@ -87,7 +87,7 @@ pub record Replies (r : Reply) (head : ReplyHead) (slot : ℕ) (bytes : List ℕ
   pub bytes_are : bytes ≡ spelling (coap_reply r head s.next_id)
   pub after : t ≡ with_kept head.kind slot bytes (with_id_used head.kind s)
 
--- the server with these watchers
+-- the server with these observers
 abbrev pub with_watchers : Watching → Server → Server
 with_watchers w s = record s { watchers = w }
 
@@ -102,7 +102,7 @@ with_parts parts s = record s { parts = parts }
 abbrev pub with_links : List ℕ → Server → Server
 with_links text s = record s { links = text }
 
--- What was asked, of this target if it has one, has this outcome, and is answered in these bytes: first its sender is
+-- A request, for this target if it has one, has this outcome, and is answered in these bytes: first its sender is
 -- registered or deregistered, and a body that is given in blocks is kept; then the reply says the sequence number of a
 -- registration.
 pub record Answers (ask : PendingReply) (o : Outcome) (target : Option ℕ) (bytes : List ℕ) (s t : Server) : Type 0 where
@@ -123,7 +123,7 @@ abbrev pub with_notice_sent : Option Notice → Server → Server
 with_notice_sent None s = s
 with_notice_sent (Some n) s = if n.fresh then with_next_id s else s
 
--- What is to be sent to watchers at a moment: one notification at most.
+-- The notification to be sent at a moment, one at most.
 pub record SendsNext (now : ℕ) (n : Option Notice) (s t : Server) : Type 0 where
   pub watchers : Watching
   pub notifies : Notifies now s.next_id s.watchers.list n watchers.list
@@ -132,7 +132,7 @@ pub record SendsNext (now : ℕ) (n : Option Notice) (s t : Server) : Type 0 whe
 
 -- ---- messages that are no requests
 
--- what an empty message of this type and ID from an endpoint says of what was sent to it: an acknowledgement that it
+-- the effect of an empty message of this type and ID from an endpoint: an acknowledgement says that the notification
 -- came (RFC 7252, section 4.2), and a Reset that it wasn't wanted (RFC 7641, section 3.6)
 abbrev pub told_by_empty : Endpoint → Type4 → ℕ → Watching → Watching
 told_by_empty from Con id w = w
@@ -140,7 +140,7 @@ told_by_empty from Non id w = w
 told_by_empty from Ack id w = with_acknowledgement from id w
 told_by_empty from Rst id w = with_reset from id w
 
--- what any message that is no request says of it: nothing, unless it is empty
+-- the effect of any message that is no request: none, unless it is empty
 abbrev pub told_by : Endpoint → CoapMessage → Watching → Watching
 told_by from m w = if m.code == EMPTY then told_by_empty from m.kind m.id w else w
 
@@ -187,12 +187,12 @@ pub record IsMet (from : Endpoint) (bytes : List ℕ) (now : ℕ) (m : CoapMessa
   pub same_parts : t.parts ≡ s.parts
   pub same_links : t.links ≡ s.links
 
--- What is done with a datagram that isn't admitted. It takes no memory, and so is said apart: a duplicate, what finds
--- the table full and what is no request are never out of memory.
+-- The treatment of a datagram that isn't admitted. It takes no memory, and so is said apart: a duplicate, a request
+-- that finds the table full and a message that is no request are never out of memory.
 pub data Settles (from : Endpoint) (bytes : List ℕ) (now : ℕ) (heard : Heard) (s t : Server) : Type 0 where
   -- it is no message: it is rejected, and nothing else is done
   malformed : (f : MsgFault) → HasMsgFault f bytes → heard ≡ replied_at_once (rejection_of bytes) → t ≡ s → Settles from bytes now heard s t
-  -- it is a message and no request, as a response, an empty message, an acknowledgement or a Reset; at most a watcher
+  -- it is a message and no request, as a response, an empty message, an acknowledgement or a Reset; at most an observer
   -- waits for it
   no_request : (m : CoapMessage) → Spells m bytes → is_request m ≡ false → heard ≡ replied_at_once (empty_reply m.kind m.id false)
       → t ≡ with_report from m s → Settles from bytes now heard s t
@@ -208,14 +208,14 @@ pub data Settles (from : Endpoint) (bytes : List ℕ) (now : ℕ) (heard : Heard
 
 -- ---- datagrams that are admitted
 
--- what a request wants of the watchers, and of blocks
+-- the wishes of a request for the observers, and for blocks
 abbrev pub observing_in : CoapMessage → Observing
 observing_in m = observing_of m.code (what_is_asked m).observe
 
 abbrev pub wanted_in : CoapMessage → Wanted
 wanted_in m = wanted_of m.code (observing_in m) (what_is_asked m)
 
--- what is kept for the reply to a request that came from an endpoint and got this slot, where blocks are this to the reply
+-- the pending reply to a request that came from an endpoint and got this slot, where blocks have this part in the reply
 abbrev pub pending_with : BlockUse → Endpoint → CoapMessage → ℕ → PendingReply
 pending_with use_it from m slot = record {
   kind = request_type m.kind;
@@ -256,15 +256,16 @@ Adds from now m b s added parts = Gives (after_block (block_arrival from now m b
 abbrev pub asks_links : CoapMessage → Bool
 asks_links m = is_links_path (what_is_asked m).request.path
 
--- The server once the links are given to a request that came from an endpoint at a moment, with this token, wants this of
--- the watchers and asks this: its sender is deregistered where it wants that, and a text that is given in blocks is kept.
+-- The server once the links are given to a request that came from an endpoint at a moment, with this token, wants this
+-- of the observers and asks this: its sender is deregistered where it wants that, and a text that is given in blocks is
+-- kept.
 abbrev pub links_given : Endpoint → ℕ → List ℕ → Observing → PlainAsk → Server → Server
 links_given from now token o a s =
     with_bodies (bodies_with_links from a.request.path now (size_asked o a) s.links s.bodies) (with_watchers (watchers_with_links o from token s.watchers) s)
 
--- Why a request that was admitted is answered at once, by which reply, and the parts then: by the first fault of its
--- options, or out of memory, which is free to come where there is none; because it wants no act; or because it is for
--- the links and isn't a GET.
+-- The cases in which a request that was admitted is answered at once, with the reply and the parts then: by the first
+-- fault of its options, or out of memory, which is free to come where there is none; because it wants no act; or
+-- because it is for the links and isn't a GET.
 pub data IsAnsweredAtOnce (from : Endpoint) (now : ℕ) (m : CoapMessage) (r : Reply) (s : Server) (parts : List Part) : Type 0 where
   -- a bad option of a Confirmable request (RFC 7252, section 5.4.1)
   bad_option : (number : ℕ) → slice_get (faults_of m.options) 0 ≡ Some (fault.BadOption number) → request_type m.kind ≡ Confirmable

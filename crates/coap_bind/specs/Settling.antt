@@ -43,7 +43,7 @@ SettlesOrAdmits from bytes now (Err reply) old new s t = (heard : Heard) × Sett
 SettlesOrAdmits from bytes now (Ok admitted) old new s t =
     IsMet from bytes now (message_of admitted.0) (Fresh admitted.1) s t × IsAwaited admitted.1 t.exchanges × (new ≡ old)
 
--- a request that was admitted, and what is read of it
+-- a request that was admitted, and its meaning
 pub record IsReadOf (pending : PendingReply) (code : ℕ) (what : PlainAsk) (m : CoapMessage) : Type 0 where
   pub head : head_in pending ≡ head_of m
   pub observing : pending.observing ≡ observing_in m
@@ -51,7 +51,7 @@ pub record IsReadOf (pending : PendingReply) (code : ℕ) (what : PlainAsk) (m :
   pub what_is : what ≡ what_is_asked m
   pub faultless : faults_of m.options ≡ []
 
--- A block of a request that was admitted was added to the parts, which became of it.
+-- A block of a request that was admitted was added to the parts, with this outcome.
 pub record IsAdded (pending : PendingReply) (now : ℕ) (what : PlainAsk) (m : CoapMessage) (b : Block) (added : Added) (s t : Server) : Type 0 where
   pub head : head_in pending ≡ head_of m
   pub observing : pending.observing ≡ observing_in m
@@ -65,7 +65,7 @@ pub record IsAdded (pending : PendingReply) (now : ℕ) (what : PlainAsk) (m : C
 abbrev pub HasWhole : Added → List Part → Type 0
 HasWhole added parts = (place : ℕ) → added ≡ Complete place → (place < length parts) × IfSome (slice_get parts place) (λ p. length p.bytes ≤ longest_request)
 
--- A block is answered by what became of it, or the place of the body is given that it made whole, which isn't for the links.
+-- A block is answered by its outcome, or the place of the body is given that it made whole, which isn't for the links.
 pub data AnswersBlock (pending : PendingReply) (path : List (List ℕ)) (b : Block) (added : Added) (answer : Result ℕ ℕ) (old new : List ℕ) (s t : Server) : Type 0 where
   answered : (r : Reply) (n : ℕ) → added_reply b added ≡ Some r → RepliesAs r pending n old new s t → answer ≡ Err n
       → AnswersBlock pending path b added answer old new s t
@@ -79,7 +79,7 @@ pub data AnswersBlock (pending : PendingReply) (path : List (List ℕ)) (b : Blo
 abbrev pub ReadsAs : Endpoint → ℕ → CoapMessage → ℕ → CoapNext → List ℕ → List ℕ → Server → Server → Type 0
 ReadsAs from now m slot next old new s t = (heard : Heard) × Reads from now m slot heard s t × Tells heard next old new
 
--- A request for the links is answered: a GET with their text, and any other verb that it can't be.
+-- A request for the links is answered: a GET with their text, and any other verb with a refusal.
 pub data AnswersLinks (pending : PendingReply) (code now : ℕ) (what : PlainAsk) (n : ℕ) (old new : List ℕ) (s t : Server) : Type 0 where
   gives : code ≡ GET
       → RepliesAs (links_reply (size_asked pending.observing what) s.links) pending n old new

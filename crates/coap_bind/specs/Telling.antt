@@ -1,5 +1,5 @@
--- How a call answers what is done with a datagram (RFC 7252, sections 4.2 to 4.5): by its result and by
--- the bytes that it writes.
+-- The way in which a call tells the treatment of a datagram (RFC 7252, sections 4.2 to 4.5): by its result and by the
+-- bytes that it writes.
 use Rattle.std.specs.Prelude.{◌≡◌, ◌≤◌, ℕ, Option, List, length}
 use Rattle.coap_msg.specs.declared.constants.TheConstants.{LONGEST_TOKEN, LONGEST_MESSAGE}
 use Rattle.coap_msg.specs.declared.endpoint.Endpoint.{Endpoint}
@@ -19,7 +19,7 @@ use Rattle.coap_bind.specs.Writing.{Reply, observed, head_in, coap_reply}
 use Rattle.coap_bind.specs.Observing.{effect_of, Watches}
 use Rattle.coap_bind.specs.Server.{Heard, ignored, answered_at_once, asked, Replies, Answers, IsMet, Settles, Hears}
 
--- what is done is what the result says, and the bytes to send are at the front of the room
+-- the result says the treatment, and the bytes to send are at the front of the room
 abbrev pub Tells : Heard → CoapNext → List ℕ → List ℕ → Type 0
 Tells heard Nothing old new = (heard ≡ ignored) × (new ≡ old)
 Tells heard (Send n) old new = (bytes : List ℕ) × (heard ≡ answered_at_once bytes) × IsWritten bytes n old new
@@ -62,7 +62,7 @@ HasRoom ask o target s =
     (observe : Option ℕ) (watchers : Watching) → Watches (effect_of ask.observing o target) ask.from ask.token s.watchers observe watchers
     → length (spelling (coap_reply (observed observe (answer_reply ask.blocks o)) (head_in ask) s.next_id)) ≤ LONGEST_MESSAGE
 
--- what is asked may be answered: the exchange in the slot of the ticket waits for its reply, the token is one (RFC 7252,
+-- a request may be answered: the exchange in the slot of the ticket waits for its reply, the token is one (RFC 7252,
 -- section 3), and the sizes of blocks are such as there are
 pub record MayAnswer (ask : PendingReply) (s : Server) : Type 0 where
   pub awaited : IsAwaited ask.slot s.exchanges

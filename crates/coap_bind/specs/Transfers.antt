@@ -34,7 +34,7 @@ RequestsWithoutBlocksAct =
 abbrev pub AnswersLeaveTheParts : Type 0
 AnswersLeaveTheParts = (ask : PendingReply) (o : Outcome) (target : Option ℕ) (bytes : List ℕ) (s t : Server) → Answers ask o target bytes s t → t.parts ≡ s.parts
 
--- what becomes of a block isn't that a body is whole
+-- a block doesn't make a body whole
 abbrev pub LeavesOpen : BlockArrival → List Part → Type 0
 LeavesOpen a parts = (place : ℕ) → (after_block a (living a.moment parts)).0 ≡ Complete place → ⊥
 
@@ -47,8 +47,8 @@ pub data Spends (before : List Part) : List Call → List Part → Type 0 where
       → (after_block a (living a.moment parts)).0 ≡ Complete place
       → Spends before (calls ++ adds a ∷ clears place ∷ []) (without_place (Some place) (after_call (adds a) parts))
 
--- Between two calls of a server no body that is whole stands among its parts: they are what blocks that came leave, each
--- body gone as soon as it was whole.
+-- Between two calls of a server no body that is whole stands among its parts: they are made of blocks that came, and
+-- each body went as soon as it was whole.
 abbrev pub NoWholeBodyStays : Type 0
 NoWholeBodyStays =
     (capacity : ℕ) (history : List Arrival) (s : Server) → Did capacity history s

@@ -1,5 +1,5 @@
--- What comes of a datagram, from its coming to its answer: said of the table of exchanges, of the watchers and of what is sent
--- back (RFC 7252, sections 4.2 to 4.5; RFC 7641, section 4.1).
+-- The treatment of a datagram, from its coming to its answer: said of the table of exchanges, of the observers and of
+-- the bytes that are sent back (RFC 7252, sections 4.2 to 4.5; RFC 7641, section 4.1).
 use Rattle.std.specs.Prelude.{◌≡◌, ◌≢◌, ◌⊎◌, ℕ, true, List, [], ◌∷◌, ◌++◌, Option, Some, None}
 use Rattle.coap_msg.specs.declared.block.Block.{Block}
 use Rattle.coap_msg.specs.declared.endpoint.Endpoint.{Endpoint}
@@ -25,14 +25,14 @@ use Rattle.coap_bind.specs.Observing.{effect_of, Watches}
 use Rattle.coap_bind.specs.Server.{Heard, ignored, answered_at_once, asked, told_by, is_request, duplicate_reply, arrival, asks_links, observing_in, wanted_in, with_whole_body, Hears, Answers}
 use Rattle.coap_bind.specs.Laws.{HasShortPlace}
 
--- An act: what was asked, its outcome, and the target that the request was for, if it was for one.
+-- An act: the request, its outcome, and the target that the request was for, if it was for one.
 pub record Acted : Type 0 where
   pub what : PlainAsk
   pub outcome : Outcome
   pub target : Option ℕ
 
--- What a server does with a datagram, and what is sent back: it is ignored, or answered at once; or what it asks for is done,
--- once, and answered.
+-- The treatment of a datagram by a server, and the bytes that are sent back: it is ignored, or answered at once; or its
+-- request is done, once, and answered.
 pub data Treats (from : Endpoint) (bytes : List ℕ) (now : ℕ) (act : Option Acted) (back : List (List ℕ)) (s t : Server) : Type 0 where
   ignores : Hears from bytes now ignored s t → act ≡ None → back ≡ [] → Treats from bytes now act back s t
   answers : (reply : List ℕ) → Hears from bytes now (answered_at_once reply) s t → act ≡ None → back ≡ reply ∷ []
@@ -43,9 +43,9 @@ pub data Treats (from : Endpoint) (bytes : List ℕ) (now : ℕ) (act : Option A
 
 -- ---- the cases
 
--- Why a request that was admitted at a moment gets this reply, and what becomes of the watchers: its options are faulty, or
--- memory is out; or it wants no act; or it is for the links, and gets their text or is refused; or it was acted on, as it is
--- or with a body that was joined of blocks, and that is what the act came to.
+-- The cases in which a request that was admitted at a moment gets this reply, and the observers afterwards: its options
+-- are faulty, or memory is out; or it wants no act; or it is for the links, and gets their text or is refused; or it
+-- was acted on, as it is or with a body that was joined of blocks, and the reply says the outcome of the act.
 pub data IsReplied (from : Endpoint) (now : ℕ) (m : CoapMessage) (act : Option Acted) (r : Reply) (old new : Watching) : Type 0 where
   faulty : faults_of m.options ≢ [] → act ≡ None → new ≡ old → IsReplied from now m act r old new
   memory : r ≡ reply_of Memory → act ≡ None → new ≡ old → IsReplied from now m act r old new
@@ -66,13 +66,13 @@ abbrev pub kept_for : RequestType → List ℕ → Option (List ℕ)
 kept_for Confirmable reply = Some reply
 kept_for NonConfirmable reply = None
 
--- what is sent back at once
+-- the bytes that are sent back at once
 abbrev pub sent_back : Heard → List (List ℕ)
 sent_back ignored = []
 sent_back (answered_at_once bytes) = bytes ∷ []
 sent_back (asked what ask) = []
 
--- What a message that is no request says to the watchers; bytes that are no message say nothing.
+-- The effect of a message that is no request on the observers; bytes that are no message have none.
 abbrev pub IsTold : Endpoint → List ℕ → Watching → Watching → Type 0
 IsTold from bytes old new = (new ≡ old) ⊎ ((m : CoapMessage) × Spells m bytes × (new ≡ told_by from m old))
 

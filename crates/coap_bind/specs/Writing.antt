@@ -18,7 +18,7 @@ use Rattle.thing_ops.specs.Outcomes.{coap, answer_of, payload_of, text_of, versi
 use Rattle.coap_observe.specs.declared.notice.Notice.{Notice}
 use Rattle.coap_bind.specs.declared.pending.PendingReply.{PendingReply}
 
--- ---- what a reply says
+-- ---- the contents of a reply
 
 -- a code, the version of the property that was read, if it has a tag, further options and a payload
 pub record Reply : Type 0 where
@@ -27,7 +27,7 @@ pub record Reply : Type 0 where
   pub options : List CoapOption
   pub payload : List ℕ
 
--- a word for a person to read, which has no content format (section 5.5.2)
+-- a reply with a diagnostic payload, which has no content format (section 5.5.2)
 abbrev pub word_reply : ℕ → List ℕ → Reply
 word_reply code word = record { code = code; version = None; options = []; payload = word }
 
@@ -45,7 +45,7 @@ option_reply number = word_reply BAD_OPTION (codes "option " ++ decimal number)
 abbrev pub long_reply : Reply
 long_reply = word_reply INTERNAL_SERVER_ERROR (codes "long")
 
--- the path of what was started
+-- the path of a started action
 abbrev pub place_of : Outcome → List (List ℕ)
 place_of (outcome.Started place status) = place
 place_of _ = []
@@ -59,7 +59,7 @@ text_format _ = JSON
 abbrev pub format_options : Outcome → List CoapOption
 format_options o = option_map_or (λ _. (CONTENT_FORMAT, number_bytes (text_format o)) ∷ []) (text_of o) []
 
--- what is said of an outcome, if its payload isn't too long; the further options are in order of their numbers: one
+-- the reply that says an outcome, if its payload isn't too long; the further options are in order of their numbers: one
 -- Location-Path for each segment of the place (section 5.10.7), and the format
 abbrev pub whole_reply : Outcome → Reply
 whole_reply o = record {
@@ -98,7 +98,7 @@ observed observe r = record r { options = observe_options observe ++ r.options }
 
 -- ---- the message
 
--- what a reply takes over from its request: how that was sent, its message ID and its token
+-- the parts that a reply takes over from its request: the type of its message, its message ID and its token
 pub record ReplyHead : Type 0 where
   pub kind : RequestType
   pub id : ℕ
@@ -124,8 +124,8 @@ abbrev pub reply_id : RequestType → ℕ → ℕ → ℕ
 reply_id Confirmable id next = id
 reply_id NonConfirmable id next = next
 
--- The message that a reply with this head is, where this is the next message ID of the server. It has
--- the token of the request (section 5.3.1).
+-- The message of a reply with this head, where this is the next message ID of the server. It has the token of the
+-- request (section 5.3.1).
 abbrev pub coap_reply : Reply → ReplyHead → ℕ → CoapMessage
 coap_reply r head next = record {
   kind = reply_kind head.kind;

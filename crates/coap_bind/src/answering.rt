@@ -1,4 +1,5 @@
-//! Replies to requests: those of outcomes, of which some register or deregister a watcher, and the server's own words.
+//! Replies to requests: those of outcomes, of which some register or deregister an observer, and the server's own
+//! refusals.
 
 use crate::blocks::{BlockUse, Giving};
 use crate::next::CoapNext;
@@ -30,7 +31,7 @@ impl Server {
     ghost use Rattle.coap_bind.specs.Telling.{RepliesAs, AnswersAs, HasRoom};
     ghost use Rattle.coap_bind.specs.Settling.{RefusesOption};
 
-    /// Keeps the payload of what was asked for the requests for its later blocks, where it has any.
+    /// Keeps the payload of an outcome for the requests for its later blocks, where it has any.
     pub fn keep_body(&mut self, pending: &PendingReply, outcome: &Outcome)
         requires { IsUse pending.now.blocks }
         ensures { self.new ≡ with_bodies (bodies_after pending.now.blocks pending.now.from outcome.now self.old.bodies) self.old }
@@ -53,8 +54,8 @@ impl Server {
         }
     }
 
-    /// Does this to the watchers, for the sender of what was asked: gives the sequence number that the response says,
-    /// if it says one.
+    /// Has this effect on the observers, for the sender of a request, and gives the sequence number that the response
+    /// says, if it says one.
     pub fn watch(&mut self, pending: &PendingReply, effect: Effect) -> Option<u32>
         ensures watches { Watches effect pending.now.from pending.now.token self.old.watchers result self.new.watchers }
         ensures same { self.new ≡ with_watchers self.new.watchers self.old }
@@ -72,7 +73,7 @@ impl Server {
         }
     }
 
-    /// Answers a request that was admitted with a word, and returns how many bytes to send.
+    /// Answers a request that was admitted with a diagnostic payload, and returns the number of bytes to send.
     pub fn refuse(
         &mut self,
         pending: &PendingReply,
@@ -103,6 +104,7 @@ impl Server {
         match pending.kind {
             RequestType::Confirmable => {
                 let mut buffer = Buffer::new();
+                // Bytes and not `format!`, since a refusal takes no memory.
                 let mut word = [0u8; 16];
                 let at = put_bytes(&mut word, 0, b"option ");
                 let at = put_bytes(&mut word, at, buffer.format(number).as_bytes());

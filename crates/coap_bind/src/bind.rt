@@ -1,4 +1,4 @@
-//! The CoAP server: what a datagram asks for, the reply to it, and notifications.
+//! The CoAP server: the requests of datagrams, the replies to them, and notifications.
 
 use crate::NoMemory;
 use crate::blocks::BlockUse;
@@ -18,7 +18,7 @@ use std::marker::Model;
 use thing_ops::Outcome;
 use wot_json::Bytes;
 
-/// The server's side of all its exchanges. Contracts see what it holds (`Server`, which specs/Server.antt explains).
+/// The server's side of all its exchanges. Contracts see its contents (`Server`, which specs/Server.antt explains).
 ///
 /// Moments are in milliseconds, and none that is handed in is before the last one.
 #[derive(Drop)]
@@ -48,7 +48,7 @@ impl CoapBind {
     ghost use Rattle.coap_blocks.specs.Parts.{longest_request};
     ghost use Rattle.coap_bind.specs.Telling.{HearsAs, SettlesAs, IsAdmitted, TicketIsOpen, HasRoom, AnswersAs};
 
-    /// A server in which `exchanges` exchanges may live, with at most `watchers` watchers. The memory of both is taken
+    /// A server in which `exchanges` exchanges may live, with at most `watchers` observers. The memory of both is taken
     /// here, and that of bodies in blocks: 16 of responses and 8 of requests.
     pub fn new(alloc: Global, exchanges: u32, watchers: u32) -> Result<CoapBind, NoMemory>
         requires least_exchanges { 16 ≤ exchanges }
@@ -97,8 +97,8 @@ impl CoapBind {
         requires room { longest_request ≤ length room.old }
         ensures ok { HearsAs from bytes.now now result out.old out.new self.old self.new }
 
-        // What isn't admitted takes no memory, and is never answered to be out of memory: duplicates, what finds the
-        // table full, and what is no request.
+        // A datagram that isn't admitted takes no memory, and is never answered to be out of memory: a duplicate, a
+        // request that finds the table full, and a message that is no request.
         ensures memory { IsAdmitted from bytes.now now self.old ⊎ SettlesAs from bytes.now now result out.old out.new self.old self.new }
 
         // A ticket may be spent at once.
@@ -115,7 +115,7 @@ impl CoapBind {
                     token: BoundedBytes::of(message.token),
                     slot,
                     from,
-                    // What its options want isn't known yet.
+                    // To be filled in, since its options aren't read yet.
                     observing: Observing::Unchanged,
                     blocks: BlockUse::Whole,
                 };
@@ -128,11 +128,11 @@ impl CoapBind {
         }
     }
 
-    /// Answers what was asked of `target`, the number of what may be observed there, if there is such a thing: the reply
-    /// is written to the beginning of `out`, goes to where the request came from, and has as many bytes as are returned.
-    /// A GET with Observe registers or deregisters its sender (RFC 7641, section 4.1), and of a payload that is given in
-    /// blocks the first is, and the rest is kept for the requests for it (RFC 7959, section 2.4). It takes no memory. That
-    /// the reply has at most 1,152 bytes is asked just so; the law `replies_fit` says when it has.
+    /// Answers a request for `target`, the number of the target that may be observed there, if there is one: the reply
+    /// is written to the beginning of `out`, goes to the sender of the request, and has as many bytes as are returned.
+    /// A GET with Observe registers or deregisters its sender (RFC 7641, section 4.1), and of a payload that is given
+    /// in blocks the first is, and the rest is kept for the requests for it (RFC 7959, section 2.4). It takes no
+    /// memory. The clause `room` asks that the reply has at most 1,152 bytes; the law `replies_fit` says when it has.
     pub fn answer(
         &mut self,
         ticket: Ticket,
@@ -146,6 +146,7 @@ impl CoapBind {
         ensures ok { AnswersAs ticket outcome.now target result out.old out.new self.old self.new }
         ensures moment { self.new.exchanges.moment ≡ self.old.exchanges.moment }
     {
+        // Taken apart, since a ticket can't be dropped.
         let Ticket { pending } = ticket;
         let effect = effect_of(pending.observing, outcome, target);
         let observe = self.server.watch(&pending, effect);
@@ -160,15 +161,15 @@ impl CoapBind {
         size
     }
 
-    /// A target has a new value: its watchers are to be notified.
+    /// A target has a new value: its observers are to be notified.
     pub fn emit(&mut self, target: u32)
         ensures { self.new ≡ with_emitted target self.old }
     {
         self.server.watchers.emit(target);
     }
 
-    /// What is to be sent to a watcher now: one notification at most, which goes to `put_notice` with the last value of
-    /// its target, after which less is to be sent. A caller calls it until it returns None. The moment isn't one of the
+    /// Gives the notification to be sent now, one at most, which goes to `put_notice` with the last value of its
+    /// target, after which less is to be sent. A caller calls it until it returns None. The moment isn't one of the
     /// exchanges'.
     pub fn next_send(&mut self, now: u64) -> Option<Notice>
         ensures sends { SendsNext now result self.old self.new }
@@ -176,6 +177,7 @@ impl CoapBind {
         ensures exchanges { self.new.exchanges ≡ self.old.exchanges }
         ensures less { IfSome result (λ n. unsent now self.new.watchers.list < unsent now self.old.watchers.list) }
     {
+        // A match and not `?`, since that says its facts of a `ControlFlow`.
         match self.server.watchers.next_send(now, self.server.next_id) {
             Some(notice) => {
                 if notice.fresh {
@@ -187,7 +189,7 @@ impl CoapBind {
         }
     }
 
-    /// Writes a notification that says this value to the beginning of `out`, and returns how many bytes it has.
+    /// Writes a notification that says this value to the beginning of `out`, and returns the number of its bytes.
     pub fn put_notice(
         &self,
         notice: &Notice,

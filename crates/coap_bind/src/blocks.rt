@@ -32,27 +32,27 @@ pub enum BlockUse {
     Joined(Block),
 }
 
-/// How the payload of a response is given in blocks.
+/// The giving of a response's payload in blocks.
 #[derive(Debug, Drop)]
 pub struct Giving {
     /// The path of the request: its sender and the path lead to the later blocks.
     pub path: Segments,
     /// The exponent of the size of a block that was asked for, from 0 to 6.
     pub szx: Option<u8>,
-    /// When the request came, in milliseconds.
+    /// The moment at which the request came, in milliseconds.
     pub moment: u64,
 }
 
 /// The option of a reply that says a block (RFC 7959, section 2.1).
 #[derive(Clone, Copy, Debug, PartialEq, Eq)]
 pub enum BlockOption {
-    /// Which block of the response it has.
+    /// The block of the response that it has.
     Block2(Block),
-    /// Which block of the request came.
+    /// The block of the request that came.
     Block1(Block),
 }
 
-/// The wish of a request of this code that has this wish for the watchers.
+/// The wish of a request of this code that has this wish for the observers.
 pub fn wanted_of(code: Code, observing: Observing, ask: &CoapAsk<'_>) -> Wanted
     ensures { result ≡ wanted_of code observing (plain_ask ask.now) }
 {
@@ -80,6 +80,7 @@ pub fn block2_of(observing: Observing, ask: &CoapAsk<'_>) -> Option<Block>
     ensures { result ≡ block2_of observing (plain_ask ask.now) }
 {
     match observing {
+        // Not read, since notifications aren't given in blocks.
         Observing::Registers => None,
         Observing::Unchanged | Observing::Deregisters => ask.block2,
     }

@@ -29,8 +29,8 @@ impl Server {
     ghost use Rattle.coap_bind.specs.Settling.{AnswersBlock, HasWhole};
     ghost use Rattle.coap_bind.specs.Telling.{RepliesAs};
 
-    /// Answers a block of a request by what became of it, and gives how many bytes to send; or gives the place of the body
-    /// that the block made whole, which is to be asked unless it is for the links.
+    /// Answers a block of a request by its outcome, and gives the number of bytes to send; or gives the place of the
+    /// body that the block made whole, which is to be asked unless it is for the links.
     pub fn answer_block(
         &mut self,
         pending: &PendingReply,
@@ -89,7 +89,7 @@ impl Server {
         size
     }
 
-    /// Takes a body that is whole out of the parts, to the beginning of a room.
+    /// Takes a body that is whole out of the parts, by a copy in a room, so that its part may be cleared.
     pub fn take_whole<'a>(&mut self, place: u32, room: &'a mut [u8]) -> &'a [u8]
         requires place { place < length self.old.parts }
         requires room { IfSome (slice_get self.old.parts place) (λ p. length p.bytes ≤ length room.old) }

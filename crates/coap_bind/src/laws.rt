@@ -1,4 +1,4 @@
-//! Laws of the server, as contracts of functions that do nothing.
+//! Laws of the server, as contracts of functions that do nothing, since a law is proved only as a clause.
 
 ghost use Rattle.coap_bind.specs.Duplicates.{OnlyConfirmableAreKept, DuplicatesChangeNothing, DuplicatesGetTheFirstReply, OnlyTheFirstReplyIsRepeated};
 ghost use Rattle.coap_bind.specs.Histories.{HearingGoesOn, AskedIsAdmitted};
@@ -29,14 +29,14 @@ pub fn duplicates_get_the_first_reply()
     ensures { DuplicatesGetTheFirstReply }
 {}
 
-/// A duplicate of a request that was admitted and lives changes neither the exchanges that live nor the watchers nor the
-/// next message ID (RFC 7252, section 4.5).
+/// A duplicate of a request that was admitted and lives changes neither the exchanges that live nor the observers nor
+/// the next message ID (RFC 7252, section 4.5).
 pub fn duplicates_change_nothing()
     ensures { DuplicatesChangeNothing }
 {}
 
-/// Whatever a duplicate is answered was sent first in reply to its request, and both are Confirmable: one of a request
-/// that wasn't replied to gets nothing (RFC 7252, section 4.5).
+/// A duplicate only gets the bytes that were sent first in reply to its request, and both are Confirmable: one of a
+/// request that wasn't replied to gets nothing (RFC 7252, section 4.5).
 pub fn only_the_first_reply_is_repeated()
     ensures { OnlyTheFirstReplyIsRepeated }
 {}
@@ -47,13 +47,14 @@ pub fn asks_are_open()
     ensures { AsksAreOpen }
 {}
 
-/// A reply has at most 1,152 bytes (RFC 7252, section 4.6), with a tag and without, whatever the watchers are, in blocks
-/// and whole, unless the place of what was started is long.
+/// A reply has at most 1,152 bytes (RFC 7252, section 4.6), with a tag and without, whatever the observers are, in
+/// blocks and whole, unless the place of a started action is long.
 pub fn replies_fit()
     ensures { RepliesFit }
 {}
 
-/// Whatever a server hears, its history goes on by that, and its table is at no later moment (RFC 7252, section 4.5).
+/// The history of a server goes on by each datagram that it hears, and its table is at no later moment (RFC 7252,
+/// section 4.5).
 pub fn hearing_goes_on()
     ensures { HearingGoesOn }
 {}
@@ -63,7 +64,8 @@ pub fn asked_is_admitted()
     ensures { AskedIsAdmitted }
 {}
 
-/// What is done with a datagram, case by case: what becomes of the exchanges and of the watchers, and what is sent back.
+/// The treatment of a datagram, case by case: the exchanges and the observers afterwards, and the bytes that are sent
+/// back.
 pub fn all_are_treated()
     ensures { AllAreTreated }
 {}

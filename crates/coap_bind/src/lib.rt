@@ -1,7 +1,7 @@
-//! The CoAP server (RFC 7252, RFC 7641, RFC 7959): which datagrams are requests to act on, the replies to them, in blocks
-//! where they are long, and the notifications of those that observe. It has no clock, no socket and no resources: moments and datagrams are handed in,
-//! what is asked is handed out, and what is to be sent is written into the caller's room. `CoapBind`, `CoapNext`,
-//! `Ticket` and `coap_observe`'s `Notice` carry everything.
+//! The CoAP server (RFC 7252, RFC 7641, RFC 7959): the datagrams that are requests to act on, the replies to them, in
+//! blocks where they are long, and the notifications of observers. It has no clock, no socket and no resources: moments
+//! and datagrams are handed in, requests are handed out, and bytes to be sent are written into the caller's room.
+//! `CoapBind`, `CoapNext`, `Ticket` and `coap_observe`'s `Notice` carry everything.
 //!
 //! ```
 //! use coap_bind::{CoapBind, CoapNext};
@@ -14,7 +14,7 @@
 //!     CoapNext::Nothing => {}
 //!     CoapNext::Send(size) => send(from, &room[..size]),
 //!     CoapNext::Ask(ask, ticket) => {
-//!         // `target` is the number of what may be observed at the request's path, if there is such a thing.
+//!         // `target` is the number of the target at the path of the request, if one may be observed there.
 //!         let (outcome, target) = act(&ask.request);
 //!         let size = server.answer(ticket, &outcome, target, &mut room);
 //!         send(from, &room[..size]);
@@ -28,15 +28,16 @@
 //! }
 //! ```
 //!
-//! `specs/Server.antt` is one machine: the contents of a server, and the effect of each call on them. `specs/Observing.antt`
-//! has the wish of a request for the watchers, `specs/Blocks.antt` its wish for blocks and the part of a payload that a reply
-//! has, `specs/Links.antt` the replies on the links, and `specs/Writing.antt` a reply and a notification on the wire.
-//! The contract in a sentence: each call does what the machine does (`Hears`, `Answers`, `SendsNext`), for all that comes in any order. The laws (`specs/Laws.antt`,
-//! `specs/Duplicates.antt`, `specs/Transfers.antt`): the exchanges of a server are those of the admitted requests that
-//! live; a duplicate asks for nothing and changes nothing, and where it is answered it gets the bytes that were sent
-//! first, which it gets exactly where both requests are Confirmable and the first was replied to; a request without blocks
-//! comes to no body and no part; no body that is whole stays; and a reply fits its room. Memory is taken when the server
-//! is made, and then by the path of a request that was admitted.
+//! `specs/Server.antt` is one machine: the contents of a server, and the effect of each call on them.
+//! `specs/Observing.antt` has the wish of a request for the observers, `specs/Blocks.antt` its wish for blocks and the
+//! part of a payload that a reply has, `specs/Links.antt` the replies on the links, and `specs/Writing.antt` a reply
+//! and a notification on the wire. The contract in a sentence: each call does the same as the machine (`Hears`,
+//! `Answers`, `SendsNext`), for all that comes in any order. The laws (`specs/Laws.antt`, `specs/Duplicates.antt`,
+//! `specs/Transfers.antt`): the exchanges of a server are those of the admitted requests that live; a duplicate asks
+//! for nothing and changes nothing, and where it is answered it gets the bytes that were sent first, which it gets
+//! exactly where both requests are Confirmable and the first was replied to; a request without blocks comes to no body
+//! and no part; no body that is whole stays; and a reply fits its room. Memory is taken when the server is made, and
+//! then by the path of a request that was admitted.
 #![tactic(auto)]
 
 mod answering;

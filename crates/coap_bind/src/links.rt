@@ -1,4 +1,4 @@
-//! The path of the links, and what a request for it is answered (RFC 6690, section 4; RFC 7252, section 7.2).
+//! The path of the links, and the answer to a request for it (RFC 6690, section 4; RFC 7252, section 7.2).
 
 use crate::blocks::size_asked;
 use crate::observing::Observing;
@@ -28,7 +28,7 @@ impl Server {
     ghost use Rattle.coap_bind.specs.Settling.{AnswersLinks};
     ghost use Rattle.coap_bind.specs.Telling.{RepliesAs};
 
-    /// Answers a request for the path of the links: a GET with their text, and any other verb that it can't be.
+    /// Answers a request for the path of the links: a GET with their text, and any other verb with a refusal.
     pub fn answer_links(
         &mut self,
         pending: &PendingReply,
@@ -85,7 +85,7 @@ impl Server {
         self.reply_links(pending, size_asked(pending.observing, ask), out)
     }
 
-    /// Does to the watchers and to the bodies that are kept what a GET for the links does.
+    /// Has the effect of a GET for the links on the observers and on the bodies that are kept.
     fn note_links(&mut self, pending: &PendingReply, ask: &CoapAsk<'_>, now: u64)
         requires blocks { HasBlocks (plain_ask ask.now) }
         requires path { path_size ask.now.request.path ≤ largest_path }
@@ -103,6 +103,7 @@ impl Server {
     {
         match observing {
             Observing::Unchanged => {}
+            // Nothing to do, since the links can't be observed.
             Observing::Registers => {}
             Observing::Deregisters => {
                 let _found = self.watchers.cancel(from, token);
@@ -173,7 +174,7 @@ fn are_well_known_core(first: &[u8], second: &[u8]) -> bool
     is(second, b"core") && is(first, b".well-known")
 }
 
-/// The segment is this word.
+/// Whether a segment is this word.
 fn is(segment: &[u8], word: &[u8]) -> bool
     ensures { result ≡ bytes_eq segment.now word.now }
 {
@@ -203,7 +204,7 @@ fn put_text(bodies: &mut Bodies, from: Endpoint, path: &Segments, text: &[u8], n
     bodies.put(from, path, &body, now);
 }
 
-/// Writes the reply to a GET for the links of this text, and returns how many bytes it has.
+/// Writes the reply to a GET for the links of this text, and returns the number of its bytes.
 fn put_links(
     text: &[u8],
     szx: Option<u8>,

@@ -8,14 +8,14 @@ use std::marker::Model;
 pub enum CoapNext<'a> {
     /// Nothing.
     Nothing,
-    /// This many bytes of the room go to where the datagram came from.
+    /// This many bytes of the room go to the sender of the datagram.
     Send(usize),
     /// This is asked for: its outcome goes to `CoapBind::answer` with the ticket.
     Ask(CoapAsk<'a>, Ticket),
 }
 
 /// A request that was admitted and is to be answered, by `CoapBind::answer` alone: a ticket can't be dropped, copied or
-/// made elsewhere. Contracts see the reply that is pending.
+/// made elsewhere, so that each is answered once. Contracts see the reply that is pending.
 pub struct Ticket {
     pub(crate) pending: PendingReply,
 }

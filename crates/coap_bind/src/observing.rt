@@ -1,4 +1,4 @@
-//! The wish of a request for the watchers, and the effect of its answer on them (RFC 7641).
+//! The wish of a request for the observers, and the effect of its answer on them (RFC 7641).
 
 ghost use Rattle.std.specs.Prelude.{◌≡◌};
 ghost use Rattle.coap_bind.specs.Observing.{observing_of, may_notify, effect_of};
@@ -7,18 +7,18 @@ ghost use Rattle.coap_bind.specs.declared.observing.Observing.TheVariants as obs
 use coap_msg::{Code, GET, LONGEST_PAYLOAD};
 use thing_ops::Outcome;
 
-/// The wish of a request for the watchers (RFC 7641, section 2).
+/// The wish of a request for the observers (RFC 7641, section 2).
 #[derive(Clone, Copy, Debug, PartialEq, Eq)]
 pub enum Observing {
     /// They are to stay as they are.
     Unchanged,
-    /// Its sender is to be notified of what it asks for.
+    /// Its sender is to be notified of its target.
     Registers,
     /// Its sender isn't to be notified any more.
     Deregisters,
 }
 
-/// The effect of the answer to a request on the watchers.
+/// The effect of the answer to a request on the observers.
 #[derive(Clone, Copy, Debug, PartialEq, Eq)]
 pub enum Effect {
     /// They stay as they are.
@@ -29,7 +29,7 @@ pub enum Effect {
     Registers(u32),
 }
 
-/// The wish for the watchers of a request of this code and with this value of Observe.
+/// The wish for the observers of a request of this code and with this value of Observe.
 pub fn observing_of(code: Code, observe: Option<u32>) -> Observing
     ensures { result ≡ observing_of code observe }
 {
@@ -44,7 +44,7 @@ pub fn observing_of(code: Code, observe: Option<u32>) -> Observing
     }
 }
 
-/// The effect on the watchers of the answer to a request that has this outcome and is for this target.
+/// The effect on the observers of the answer to a request that has this outcome and is for this target.
 pub fn effect_of(observing: Observing, outcome: &Outcome, target: Option<u32>) -> Effect
     ensures { result ≡ effect_of observing outcome.now target }
 {
@@ -52,6 +52,7 @@ pub fn effect_of(observing: Observing, outcome: &Outcome, target: Option<u32>) -
         Observing::Unchanged => Effect::Nothing,
         Observing::Registers => registering(outcome, target),
         Observing::Deregisters => match outcome {
+            // It wasn't acted on, since memory was out.
             Outcome::Memory => Effect::Nothing,
             _ => Effect::Cancels,
         },

@@ -18,6 +18,7 @@ use coap_msg::{
 use thing_ops::{Outcome, Segments};
 
 /// Writes the options of an outcome's reply, where none are written yet; with Observe, where it says a sequence number.
+/// They go in the order of their numbers, as RFC 7252 (section 3.1) asks.
 pub fn put_options(
     observe: Option<u32>,
     outcome: &Outcome,
@@ -58,7 +59,7 @@ fn put_optional(options: &mut Opts<'_>, number: u16, value: Option<u32>) -> Resu
     }
 }
 
-/// Writes the place of what was started.
+/// Writes the place of a started action.
 fn put_place(outcome: &Outcome, options: &mut Opts<'_>) -> Result<(), NoRoom>
     requires order { last_number 0 options.old.list ≤ OBSERVE }
     requires segments { All (λ segment. length segment ≤ largest_number) (place_of outcome.now) }
@@ -71,7 +72,7 @@ fn put_place(outcome: &Outcome, options: &mut Opts<'_>) -> Result<(), NoRoom>
     }
 }
 
-/// Writes one Location-Path for each segment.
+/// Writes one Location-Path for each segment, by its number, as `Segments` has no iterator.
 fn put_location(options: &mut Opts<'_>, place: &Segments) -> Result<(), NoRoom>
     requires order { last_number 0 options.old.list ≤ LOCATION_PATH }
     requires segments { All (λ segment. length segment ≤ largest_number) place.now }

@@ -1,4 +1,4 @@
-//! The part of a payload that a reply has, and the Block option that says which it is (RFC 7959, section 2).
+//! The part of a payload that a reply has, and the Block option that names it (RFC 7959, section 2).
 
 ghost use Rattle.std.specs.Prelude.{◌≡◌, ◌≤◌, ◌<◌, ◌/◌, ◌==◌, length, take, IfSome, if◌then◌else◌};
 ghost use Rattle.coap_msg.specs.Blocks.{IsBlock, block_size, block_start};
@@ -16,10 +16,10 @@ const LARGEST_SZX: u8 = 6;
 /// The most bytes of a payload that is given in blocks.
 pub const LONGEST_BODY: usize = 65_536;
 
-/// A part of a payload. Definitions have it apart from where it lies in memory (`portion_seen`).
+/// A part of a payload. Definitions have it apart from its place in memory (`portion_seen`).
 #[derive(Clone, Copy)]
 pub struct Portion<'a> {
-    /// The option that says which part it is, where the payload isn't whole or a block was asked for.
+    /// The option that names the part, where the payload isn't whole or a block was asked for.
     pub block: Option<BlockOption>,
     /// The part.
     pub payload: &'a [u8],
@@ -42,7 +42,7 @@ pub fn most_bytes(blocks: &BlockUse, outcome: &Outcome) -> usize
     }
 }
 
-/// Whether an outcome is what is at the path of its request.
+/// Whether an outcome is a representation of the resource at the path of its request.
 pub fn is_representation(outcome: &Outcome) -> bool
     ensures { result ≡ is_representation outcome.now }
 {
@@ -83,7 +83,8 @@ pub fn portion_of<'a>(blocks: &BlockUse, outcome: &Outcome, payload: &'a [u8]) -
     }
 }
 
-/// The option that a reply to the last block of a request has.
+/// The option that a reply to the last block of a request has. A refusal has none, as the option acknowledges a block
+/// (RFC 7959, section 2.3).
 fn success_option(outcome: &Outcome, block: Block) -> Option<BlockOption>
     requires code { HasCode outcome.now }
     requires block { IsBlock block }

@@ -37,7 +37,7 @@ impl Server {
     ghost use Rattle.coap_bind.specs.Telling.{RepliesAs, TicketIsOpen};
     ghost use Rattle.coap_bind.specs.Writing.{reply_of, head_of, head_in};
 
-    /// Reads a request that was admitted, and does what it wants.
+    /// Reads a request that was admitted, and treats it as it wants.
     pub fn read<'a>(
         &mut self,
         alloc: Global,
@@ -59,6 +59,7 @@ impl Server {
             message,
             moment: now,
         } = received;
+        // A match and not `?`, since a request that can't be read is answered here.
         let ask = match request_of(alloc, message) {
             Ok(ask) => ask,
             Err(fault) => return self.refuse_fault(&pending, fault, out),
@@ -116,7 +117,7 @@ impl Server {
         }
     }
 
-    /// Answers a request that the server is out of memory for.
+    /// Answers a request for which the server is out of memory.
     fn refuse_out_of_memory(
         &mut self,
         pending: &PendingReply,
@@ -155,6 +156,7 @@ impl Server {
             let pending = PendingReply { blocks, ..pending };
             return CoapNext::Ask(ask, Ticket { pending });
         }
+        // A copy, since the request itself is handed out.
         match ask.request.path.copied(alloc) {
             Ok(path) => {
                 let blocks = BlockUse::Gives(Giving {
@@ -199,7 +201,7 @@ ghost use Rattle.coap_blocks.specs.Bodies.{content_of};
 ghost use Rattle.coap_bind.specs.Blocks.{later_reply};
 ghost use Rattle.coap_bind.specs.Writing.{head_in, coap_reply};
 
-/// Writes the reply to a request for a later block, where this body is kept, and returns how many bytes it has.
+/// Writes the reply to a request for a later block, where this body is kept, and returns the number of its bytes.
 fn put_later(
     body: Option<Whole<'_>>,
     block: Block,

@@ -20,7 +20,7 @@ use wot_json::Bytes;
 pub struct Server {
     /// The exchanges that live, with the replies that are kept.
     pub exchanges: Exchanges,
-    /// Those who are notified, and the target of each.
+    /// The observers, each with its target.
     pub watchers: Watchers,
     /// The message ID of the next message that isn't an acknowledgement.
     pub next_id: u16,
@@ -42,8 +42,8 @@ impl Server {
     ghost use Rattle.coap_bind.specs.Writing.{full_reply, head_of, coap_reply};
     ghost use Rattle.coap_bind.specs.Settling.{TellsDone, SettlesOrAdmits};
 
-    /// Judges a datagram as far as that takes no memory: gives the request that was admitted and its slot, or else how
-    /// many bytes to send, if any.
+    /// Judges a datagram as far as that takes no memory, without an allocator, so that its signature says so: gives the
+    /// request that was admitted and its slot, or else the number of bytes to send, if any.
     pub fn settle<'a>(
         &mut self,
         from: Endpoint,
@@ -71,7 +71,7 @@ impl Server {
         }
     }
 
-    /// Answers a request for which the table has no room. The reply isn't kept.
+    /// Answers a request for which the table has no room. The reply isn't kept, so that a duplicate may be admitted.
     fn refuse_full(&mut self, message: &Message<'_>, out: &mut [u8; LONGEST_MESSAGE]) -> usize
         requires { length message.now.token.now ≤ LONGEST_TOKEN }
         ensures bytes { IsWritten (spelling (coap_reply full_reply (head_of (message_of message.now)) self.old.next_id)) result out.old out.new }
@@ -89,6 +89,7 @@ impl Server {
             options: &options,
             payload: b"full",
         };
+        // There is room, since such a reply has at most 17 bytes.
         let size = encode(&reply, out).unwrap();
         match kind {
             RequestType::Confirmable => {}
@@ -97,7 +98,7 @@ impl Server {
         size
     }
 
-    /// Takes what a message that is no request says of a notification.
+    /// Takes the answer to a notification from a message that is no request, if it is one.
     fn report(&mut self, from: Endpoint, message: &Message<'_>)
         ensures { self.new ≡ with_report from (message_of message.now) self.old }
     {
@@ -106,7 +107,8 @@ impl Server {
         }
     }
 
-    /// Takes what an empty message of this type and ID says of a notification.
+    /// Takes the answer to a notification from an empty message of this type and ID, if it is one. One that answers
+    /// nothing is ignored, as RFC 7252 (section 4.2) asks.
     fn report_empty(&mut self, from: Endpoint, kind: Type4, id: u16)
         ensures { self.new ≡ with_watchers (told_by_empty from kind id self.old.watchers) self.old }
     {
@@ -122,8 +124,8 @@ impl Server {
         }
     }
 
-    /// Answers a duplicate of a request by the reply that is kept in this slot, if it is answered:
-    /// gives how many bytes to send.
+    /// Answers a duplicate of a request by the reply that is kept in this slot, if it is answered, and gives the number
+    /// of bytes to send.
     fn answer_duplicate(
         &self,
         kind: RequestType,
@@ -154,7 +156,7 @@ fn is_request(kind: Type4, code: Code) -> bool
     }
 }
 
-/// Writes a reply that was kept, and returns how many bytes it has.
+/// Writes a reply that was kept, and returns the number of its bytes.
 fn put_kept(reply: &[u8], out: &mut [u8; LONGEST_MESSAGE]) -> usize
     requires { length reply.now ≤ LONGEST_MESSAGE }
     ensures { IsWritten reply.now result out.old out.new }

@@ -54,7 +54,7 @@ pub fn kind_and_id(kind: RequestType, id: u16, next_id: u16) -> (Type4, u16)
     }
 }
 
-/// Writes a reply that is a word, and returns how many bytes it has.
+/// Writes a reply with a diagnostic payload, and returns the number of its bytes.
 pub fn put_word(
     code: Code,
     word: &[u8],
@@ -80,7 +80,7 @@ pub fn put_word(
     encode(&message, out).unwrap()
 }
 
-/// Writes a reply, with Observe where it says a sequence number, and returns how many bytes it has.
+/// Writes a reply, with Observe where it says a sequence number, and returns the number of its bytes.
 pub fn put_outcome(
     said: Said<'_>,
     pending: &PendingReply,
@@ -93,6 +93,7 @@ pub fn put_outcome(
     requires room { length (spelling (coap_reply (observed said.observe (answer_reply said.blocks.now said.outcome.now)) (head_in pending.now) next_id)) ≤ LONGEST_MESSAGE }
     ensures { IsWritten (spelling (coap_reply (observed said.entry.observe (answer_reply said.entry.blocks.now said.entry.outcome.now)) (head_in pending.now) next_id)) result out.old out.new }
 {
+    // Room of its own, since an answer takes no memory.
     let mut words = [0u8; LONGEST_WORD];
     let size = word(said.outcome, &mut words);
     let payload = said.outcome.text().unwrap_or(&words[..size]);
@@ -103,7 +104,7 @@ pub fn put_outcome(
     put_portion(said, portion, pending, next_id, out)
 }
 
-/// Writes a reply with this part of the payload of its outcome, and returns how many bytes it has.
+/// Writes a reply with this part of the payload of its outcome, and returns the number of its bytes.
 fn put_portion(
     said: Said<'_>,
     portion: Portion<'_>,
@@ -118,6 +119,7 @@ fn put_portion(
 {
     let mut room = [0u8; LONGEST_MESSAGE];
     let mut options = Opts::on(&mut room);
+    // Nothing fails here, since the clause `room` asks that there is room.
     put_options(said.observe, said.outcome, &mut options).unwrap();
     put_block(portion.block, &mut options).unwrap();
     let (kind, id) = kind_and_id(pending.kind, pending.id, next_id);
@@ -132,7 +134,7 @@ fn put_portion(
     encode(&message, out).unwrap()
 }
 
-/// Writes a reply to a request that isn't acted on, and returns how many bytes it has.
+/// Writes a reply to a request that isn't acted on, and returns the number of its bytes.
 pub fn put_told(
     told: Told<'_>,
     pending: &PendingReply,
@@ -160,7 +162,7 @@ pub fn put_told(
     encode(&message, out).unwrap()
 }
 
-/// Writes a notification that says this value, and returns how many bytes it has.
+/// Writes a notification that says this value, and returns the number of its bytes.
 pub fn put_notification(notice: &Notice, value: &[u8], out: &mut [u8; LONGEST_MESSAGE]) -> usize
     requires notice { IsSendable notice.now }
     requires value { length value.now ≤ LONGEST_PAYLOAD }

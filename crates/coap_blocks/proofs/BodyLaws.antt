@@ -11,7 +11,7 @@ use Rattle.coap_blocks.specs.Laws.{BodiesFollowThePuts, IsLastFor, TheLastBodyIs
 use Rattle.coap_blocks.proofs.Lists.{rest_of, place_removed, none_goes, replaced_last}
 use Rattle.coap_blocks.proofs.Paths.{same_key, key_itself}
 
--- ---- whose a body is
+-- ---- the endpoint and the path of a body
 
 pub own_is : (from : Endpoint) (path : List (List ℕ)) (b : Body) → is_body_of from path b ≡ true → (b.from ≡ from) × (b.path ≡ path)
 own_is from path b e = same_key b.from from b.path path e
@@ -32,9 +32,9 @@ other_way_not : (a b : Body) (t : Bool) → is_body_of b.from b.path a ≡ t →
 other_way_not a b true e n = let wrong = other_way b a e in cc
 other_way_not a b false e n = refl
 
--- ---- what no later one replaces
+-- ---- the bodies that no later one replaces
 
--- what passes nowhere passes nowhere among them
+-- a test that passes nowhere passes nowhere among them
 any_unreplaced : (p : Body → Bool) (bodies : List Body) → list_any p bodies ≡ false → list_any p (unreplaced bodies) ≡ false
 any_unreplaced p [] e = refl
 any_unreplaced p (x ∷ later) e = by_test (any_unreplaced p later) (list_any (is_body_of x.from x.path) later) (p x) (list_any p later) refl refl e
@@ -128,7 +128,7 @@ bodies_follow_the_puts puts b =
     (λ k. once b.from b.path (take k (unreplaced puts)) (drop k (unreplaced puts)) (subst AreApart (sym (take-append-drop k (unreplaced puts))) (apart puts)))
     ∙ ap (λ (l : List Body). last most_bodies (l ++ b ∷ [])) (sym (others_are b.from b.path (kept_bodies puts)))
 
--- what is found passes, and is in the list
+-- a body that is found passes, and is in the list
 abbrev IsIn : Body → List Body → Type 0
 IsIn b [] = ⊥
 IsIn b (x ∷ xs) = (x ≡ b) ⊎ IsIn b xs
@@ -146,7 +146,7 @@ in_drop b zero xs is = is
 in_drop b (suc k) [] is = is
 in_drop b (suc k) (x ∷ xs) is = inr (in_drop b k xs is)
 
--- what no later one replaces is the last of its endpoint and path
+-- a body that no later one replaces is the last of its endpoint and path
 last_for : (from : Endpoint) (path : List (List ℕ)) (b : Body) (puts : List Body) → is_body_of from path b ≡ true → IsIn b (unreplaced puts) → IsLastFor from path b puts
 last_for from path b [] own is = absurd is
 last_for from path b (x ∷ later) own is = by_test (list_any (is_body_of x.from x.path) later) refl is (last_for from path b later own)

@@ -1,4 +1,4 @@
--- What is answered to a block, from the steps of the code.
+-- The answer to a block, from the steps of the code.
 use Rattle.std.proofs.Common.{◌≡◌, ◌+◌, ◌≤◌, ◌<◌, ℕ, zero, suc, Bool, true, false, List, [], ◌∷◌, ◌++◌, set, remove, length, get_or, Option, Some, None, refl, ap, sym, subst, ◌∙◌, arith}
 use Rattle.std.specs.Prelude.{◌==◌, ◌≢◌, not, nat_lt, if◌then◌else◌}
 use Rattle.std.proofs.lemmas.Bool.Decides.{nat_tests}
@@ -26,7 +26,7 @@ fits n h = grind (arith, nat_tests)
 fits_not : (n : ℕ) → 16384 < n → nat_lt 16384 n ≡ true
 fits_not n h = grind (arith, nat_tests)
 
--- what is answered, by the two tests
+-- the answer, by the two tests
 abbrev pub said_to : Block → List ℕ → ℕ → Part → List Part → Bool → Bool → Added × List Part
 said_to b payload place own parts apart long =
     if apart then (answer.Incomplete, remove parts place) else if long then (answer.TooLarge, remove parts place) else (answer_at place b, set parts place (extended payload own))
@@ -89,7 +89,7 @@ begins_not a others new room same =
 
 -- ---- a block
 
--- what is answered, by the two tests
+-- the answer, by the two tests
 abbrev said_at : Arrival → List Part → Bool → Bool → Added × List Part
 said_at a parts bad first =
     if bad then (answer.BadBlock, parts) else if first then begun a (other_parts a.origin parts) else joined a.origin a.block a.payload parts
@@ -123,6 +123,6 @@ part_is [] place d within = absurd (omega arith)
 part_is (p ∷ parts) zero d within = refl
 part_is (p ∷ parts) (suc place) d within = part_is parts place d (omega arith)
 
--- any part, for what std's lemmas read past the end of a list
+-- any part, which std's lemmas read past the end of a list
 pub any_part : Part
 any_part = new_part (record { from = record { host = 0; port = 0 }; code = 0; path = [] }) 0

@@ -1,4 +1,4 @@
--- Lists: what is left without the first element that passes, and the last elements.
+-- Lists without the first element that passes, and the last elements of lists.
 use Rattle.std.proofs.Common.{◌≡◌, ◌+◌, ◌-◌, ◌≤◌, ◌<◌, ℕ, zero, suc, Bool, true, false, cond, not, List, [], ◌∷◌, ◌++◌, drop, take, get_or, remove, length, Option, Some, None, refl, ap, sym, ◌∙◌, arith, append_assoc, length-append, length-drop}
 use Rattle.std.specs.Prelude.{nat_lt, ◌||◌}
 use Rattle.std.specs.List.{position, position_or_len, list_any, filter}
@@ -42,7 +42,7 @@ all_left {A} p (x ∷ xs) past = by_test (all_left p xs) (p x) past
     by_test rest true h = let none : suc (length xs) ≤ 0 = h in absurd (omega (arith, none))
     by_test rest false h = let more : suc (length xs) ≤ 1 + position_or_len p xs = h in ap (λ (l : List A). x ∷ l) (rest (omega (arith, more)))
 
--- what is left without the place that is found
+-- a list without the place that is found
 pub place_removed : {A : Type 0} (p : A → Bool) (xs : List A) (o : Option ℕ) → position p xs ≡ o → without_place o xs ≡ rest_of p xs
 place_removed p [] None e = refl
 place_removed p [] (Some i) e = absurd cc
@@ -86,7 +86,7 @@ no_more {A} p (x ∷ xs) = by_test (no_more p xs) (p x)
     by_test rest true = omega arith
     by_test rest false = omega (arith, rest)
 
--- what fails a test may as well be left out before it
+-- an element that fails a test may as well be left out before it
 pub filter_rest : {A : Type 0} (p : A → Bool) (xs : List A) → filter p (rest_of (λ x. not (p x)) xs) ≡ filter p xs
 filter_rest p [] = refl
 filter_rest {A} p (x ∷ xs) = by_test (filter_rest p xs) (p x) refl

@@ -19,7 +19,7 @@ use Rattle.coap_blocks.specs.declared.added.Added.TheVariants as answer
 use Rattle.coap_blocks.proofs.Joining.{said_to}
 use Rattle.coap_blocks.proofs.Paths.{same_path}
 
--- ---- whose a part is
+-- ---- the origin of a part
 
 three : (b c d : Bool) → (b && c && d) ≡ true → (b ≡ true) × (c ≡ true) × (d ≡ true)
 three true true true e = (refl, refl, refl)
@@ -45,7 +45,7 @@ own_origin o p e =
     ∙ ap (λ (n : ℕ). made o.from n p.origin.path) code
     ∙ ap (λ (s : List (List ℕ)). made o.from o.code s) path
 
--- what is read past the end of a list
+-- the part that is read past the end of a list
 abbrev no_part : Part
 no_part = new_part (record { from = record { host = 0; port = 0 }; code = 0; path = [] }) 0
 
@@ -162,7 +162,7 @@ after_made blocks parts (clears place ∷ calls) all = after_made blocks (withou
 pub parts_are_rows : PartsAreRows
 parts_are_rows calls = after_made [] [] calls (All-nil (IsMadeOf []))
 
--- what completes
+-- a part that is completed
 abbrev Completes : List Arrival → Arrival → ℕ → Added × List Part → Type 0
 Completes blocks a place said =
     said.0 ≡ answer.Complete place

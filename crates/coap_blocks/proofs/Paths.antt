@@ -1,4 +1,4 @@
--- Paths and endpoints that are the same, and how a path is kept.
+-- Paths and endpoints that are the same, and paths that are kept.
 use Rattle.std.proofs.Common.{◌≡◌, ◌+◌, ◌-◌, ◌≤◌, ◌<◌, ℕ, zero, suc, Bool, true, false, List, [], ◌∷◌, ◌++◌, drop, take, get_or, length, refl, ap, sym, ◌∙◌, arith, length-take-le, length-drop}
 use Rattle.std.proofs.Math.ListN.{drop_of_length-le}
 use Rattle.std.specs.Prelude.{◌&&◌, ◌≢◌, slice_get, slice_range, Some}
@@ -64,7 +64,7 @@ take_past (x ∷ p) (suc i) past = ap (λ (l : List (List ℕ)). x ∷ l) (take_
 length-range : (bytes : List ℕ) (start end : ℕ) → start ≤ end → end ≤ length bytes → length (slice_range bytes start end) ≡ end - start
 length-range bytes start end ordered within = length-take-le (end - start) (drop start bytes) (omega (arith, length-drop start bytes))
 
--- the size of a path that is kept is how much memory it has
+-- the size of a path that is kept is the size of its memory
 pub size_is_memory : (bytes : List ℕ) (start : ℕ) (ends : List ℕ) → start ≤ length bytes → AreEnds start ends (length bytes)
     → path_size (pieces bytes start ends) + start ≡ length ends + length bytes
 size_is_memory bytes start [] within are = omega (arith, are)

@@ -1,4 +1,4 @@
--- Which place a body takes.
+-- The place that a body takes.
 use Rattle.std.proofs.Common.{◌≡◌, ◌-◌, ◌≤◌, ℕ, List, [], ◌∷◌, ◌++◌, drop, remove, length, Option, Some, None, ap, sym, ◌∙◌, arith}
 use Rattle.std.specs.List.{position}
 use Rattle.std.proofs.lemmas.List.Edits.{length-remove}
@@ -7,7 +7,7 @@ use Rattle.coap_msg.specs.declared.endpoint.Endpoint.{Endpoint}
 use Rattle.coap_blocks.specs.Bodies.{Body, is_body_of, last, without_place, other_bodies, with_body}
 use Rattle.coap_blocks.proofs.Lists.{last_is_all, last_push}
 
--- any body, for what std's lemmas read past the end of a list
+-- any body, which std's lemmas read past the end of a list
 pub any_body : Body
 any_body = record { from = record { host = 0; port = 0 }; path = []; content = record { code = 0; format = None; tag = None; bytes = [] }; moment = 0 }
 

@@ -1,5 +1,5 @@
--- What contracts see of a `Bodies`, and what its calls do to that: the bodies of responses that were given in blocks,
--- each kept for the requests for its later blocks (RFC 7959, section 2.4).
+-- The view that contracts have of a `Bodies`, and the effects of its calls: the bodies of responses that were given in
+-- blocks, each kept for the requests for its later blocks (RFC 7959, section 2.4).
 use Rattle.std.specs.Prelude.{◌-◌, ◌&&◌, ℕ, Bool, List, [], ◌∷◌, ◌++◌, length, drop, find, Option, Some, None, if◌then◌else◌}
 use Rattle.std.specs.List.{list_any, position, remove}
 use Rattle.coap_msg.specs.declared.endpoint.Endpoint.{Endpoint}
@@ -9,7 +9,7 @@ use Rattle.coap_blocks.specs.declared.bodies.TheConstants.{MOST_BODIES}
 use Rattle.coap_blocks.specs.declared.body_place.TheConstants.{LONGEST_BODY}
 use Rattle.coap_blocks.specs.declared.whole.Whole.{Whole}
 
--- a whole response, apart from where it lies in memory: its code, its content format, its version and its bytes
+-- a whole response, apart from its place in memory: its code, its content format, its version and its bytes
 pub record Content : Type 0 where
   pub code : ℕ
   pub format : Option ℕ
@@ -19,14 +19,14 @@ pub record Content : Type 0 where
 abbrev pub content_of : Whole → Content
 content_of w = record { code = w.code; format = w.format; tag = w.tag; bytes = w.bytes.now }
 
--- a body that is kept: to which endpoint it was given, for which path, what it is, and when
+-- a body that is kept: the endpoint to which it was given, its path, its content, and the moment
 pub record Body : Type 0 where
   pub from : Endpoint
   pub path : List (List ℕ)
   pub content : Content
   pub moment : ℕ
 
--- how many bodies are kept, and how many bytes one has, at most
+-- the most bodies that are kept, and the most bytes of one
 abbrev pub most_bodies : ℕ
 most_bodies = MOST_BODIES
 

@@ -1,5 +1,5 @@
--- Inside the crate: how the code keeps bodies and parts. Each has a place whose memory was taken at first; what isn't
--- kept is spare.
+-- Inside the crate: the places in which the code keeps bodies and parts. Their memory was taken at first; one without a
+-- body or a part is spare.
 use Rattle.std.specs.Prelude.{◌≡◌, ◌+◌, ◌≤◌, ℕ, List, length, vec_len, vec_capacity}
 use Rattle.thing_ops.specs.Segments.{pieces, AreEnds}
 use Rattle.coap_blocks.specs.Paths.{largest_path}

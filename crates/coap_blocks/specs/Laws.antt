@@ -1,4 +1,4 @@
--- What bodies and parts are over whole histories of calls (RFC 7959, sections 2.4 and 2.5).
+-- Bodies and parts over whole histories of calls (RFC 7959, sections 2.4 and 2.5).
 use Rattle.std.specs.Prelude.{◌≡◌, ◌+◌, ℕ, true, false, List, [], ◌∷◌, ◌++◌, length, All, slice_get, Some}
 use Rattle.std.specs.List.{list_any}
 use Rattle.coap_msg.specs.declared.endpoint.Endpoint.{Endpoint}
@@ -9,7 +9,7 @@ use Rattle.coap_blocks.specs.declared.added.Added.TheVariants as answer
 
 -- ---- bodies
 
--- What is kept after all puts is what the history of them says: not replaced, and among the last 16.
+-- The bodies that are kept after all puts are those that the history says: not replaced, and among the last 16.
 abbrev pub BodiesFollowThePuts : Type 0
 BodiesFollowThePuts = (puts : List Body) (b : Body) → kept_bodies (puts ++ b ∷ []) ≡ with_body b (kept_bodies puts)
 
@@ -21,7 +21,7 @@ pub record IsLastFor (from : Endpoint) (path : List (List ℕ)) (b : Body) (puts
   pub own : is_body_of from path b ≡ true
   pub last : list_any (is_body_of from path) after ≡ false
 
--- What is got is the last body that was put for that endpoint and path, whole.
+-- `get` gives the last body that was put for that endpoint and path, whole.
 abbrev pub TheLastBodyIsGot : Type 0
 TheLastBodyIsGot =
     (puts : List Body) (from : Endpoint) (path : List (List ℕ)) (now : ℕ) (b : Body)
@@ -47,7 +47,7 @@ abbrev pub after_call : Call → List Part → List Part
 after_call (adds a) parts = (after_block a (living a.moment parts)).1
 after_call (clears place) parts = without_place (Some place) parts
 
--- a row is what is left of blocks, in their order, where some of them are left out
+-- a row is some blocks, in their order, without those that are left out
 pub data IsLeftOf : List Arrival → List Arrival → Type 0 where
   no_more : IsLeftOf [] []
   stays : (a : Arrival) (row blocks : List Arrival) → IsLeftOf row blocks → IsLeftOf (a ∷ row) (a ∷ blocks)
@@ -84,13 +84,13 @@ parts_after parts (c ∷ calls) = parts_after (after_call c parts) calls
 abbrev pub IsMadeOf : List Arrival → Part → Type 0
 IsMadeOf blocks p = (row : List Arrival) × Makes row p × IsLeftOf row blocks
 
--- Each part, at any time, is what blocks that came make, in their order, all of one endpoint, code and path, from the
+-- Each part, at any time, is made of blocks that came, in their order, all of one endpoint, code and path, from the
 -- beginning of the body on.
 abbrev pub PartsAreRows : Type 0
 PartsAreRows = (calls : List Call) → All (IsMadeOf (blocks_among calls)) (parts_after [] calls)
 
--- What completes is what blocks that came before make together with the one that completes it: nothing completes without
--- its first block, and none is joined twice.
+-- A whole body is made of blocks that came before and the one that completes it: none is whole without its first block,
+-- and no block is joined twice.
 abbrev pub WholeBodiesAreRows : Type 0
 WholeBodiesAreRows =
     (calls : List Call) (a : Arrival) (place : ℕ)

@@ -1,5 +1,5 @@
--- What contracts see of a `Parts`, and what its calls do to that: the bodies of requests that come in blocks, as far as
--- they came (RFC 7959, section 2.5).
+-- The view that contracts have of a `Parts`, and the effects of its calls: the bodies of requests that come in blocks,
+-- as far as they came (RFC 7959, section 2.5).
 use Rattle.std.specs.Prelude.{◌≡◌, ◌+◌, ◌==◌, ◌&&◌, ◌||◌, not, ℕ, Bool, List, [], ◌∷◌, ◌++◌, length, filter, nat_lt, Option, Some, None, slice_index_or, slice_set, if◌then◌else◌}
 use Rattle.std.specs.List.{position, remove}
 use Rattle.coap_msg.specs.declared.block.Block.{Block}
@@ -14,18 +14,18 @@ use Rattle.coap_blocks.specs.declared.part_place.TheConstants.{LONGEST_REQUEST}
 use Rattle.coap_blocks.specs.declared.parts.TheConstants.{MOST_PARTS}
 use Rattle.coap_blocks.specs.declared.added.Added.TheVariants as answer
 
--- whose block it is: the endpoint that sent it, and the code and the path of its request, which are the same for all
--- blocks of one body (section 2.5)
+-- the origin of a block: the endpoint that sent it, and the code and the path of its request, which are the same for
+-- all blocks of one body (section 2.5)
 pub record Origin : Type 0 where
   pub from : Endpoint
   pub code : ℕ
   pub path : List (List ℕ)
 
--- the same apart from where the path lies in memory
+-- the same apart from the path's place in memory
 abbrev pub origin_of : OriginOfCode → Origin
 origin_of o = record { from = o.from; code = o.code; path = o.path.now }
 
--- a block that came: whose it is, its number, bit and size, its payload, and when
+-- a block that came: its origin, its number, bit and size, its payload, and the moment
 pub record Arrival : Type 0 where
   pub origin : Origin
   pub block : Block
@@ -35,13 +35,13 @@ pub record Arrival : Type 0 where
 abbrev pub arrival_of : OriginOfCode → Block → List ℕ → ℕ → Arrival
 arrival_of o b payload now = record { origin = origin_of o; block = b; payload = payload; moment = now }
 
--- a body as far as it came: whose it is, its bytes so far, and when its first block came
+-- a body as far as it came: its origin, its bytes so far, and the moment of its first block
 pub record Part : Type 0 where
   pub origin : Origin
   pub bytes : List ℕ
   pub moment : ℕ
 
--- how many parts are kept, and how many bytes one has, at most
+-- the most parts that are kept, and the most bytes of one
 abbrev pub most_parts : ℕ
 most_parts = MOST_PARTS
 
@@ -52,7 +52,7 @@ longest_request = LONGEST_REQUEST
 abbrev pub is_part_of : Origin → Part → Bool
 is_part_of o p = is_same_endpoint p.origin.from o.from && p.origin.code == o.code && is_same_path p.origin.path o.path
 
--- where the own part of an origin is
+-- the place of the own part of an origin
 abbrev pub place_of : Origin → List Part → Option ℕ
 place_of o parts = position (is_part_of o) parts
 
@@ -107,7 +107,7 @@ begun a others =
 abbrev pub other_parts : Origin → List Part → List Part
 other_parts o parts = without_place (place_of o parts) parts
 
--- what is answered to a block, and the parts then, where all of the parts live
+-- the answer to a block, and the parts then, where all of the parts live
 abbrev pub after_block : Arrival → List Part → Added × List Part
 after_block a parts =
     if is_bad a.block a.payload then (answer.BadBlock, parts)

@@ -1,6 +1,6 @@
-//! What becomes of a block of a request.
+//! The outcome of a block of a request.
 
-/// What becomes of a block of a request (RFC 7959, sections 2.5 and 2.9).
+/// The outcome of a block of a request (RFC 7959, sections 2.5 and 2.9).
 #[derive(Clone, Copy, Debug, PartialEq, Eq)]
 pub enum Added {
     /// It was joined to those before it, and others are to come.

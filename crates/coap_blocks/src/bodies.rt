@@ -12,14 +12,14 @@ use std::alloc::Global;
 use std::marker::Model;
 use thing_ops::Segments;
 
-/// How many bodies are kept.
+/// The number of bodies that are kept.
 const MOST_BODIES: usize = 16;
 
 /// The bodies of responses that were given in blocks (RFC 7959, section 2.4). Contracts see those that are kept, in the
-/// order in which they were put; that one is too old is seen when it is sought.
+/// order in which they were put; the age of one is judged when it is sought.
 ///
-/// Each body has a place of its own, whose memory is taken when the bodies are made, and stays where it is: what moves
-/// when another body is put is only which place comes after which.
+/// Each body has a place of its own, whose memory is taken when the bodies are made, and stays where it is: only the
+/// order of the places changes when another body is put.
 #[derive(Drop)]
 pub struct Bodies {
     /// The oldest first.
@@ -54,7 +54,7 @@ impl Bodies {
     }
 
     /// Keeps a body that is given to an endpoint now. It replaces that of this endpoint and path, or, where as many are
-    /// kept as may, the oldest.
+    /// kept as may be, the oldest.
     pub fn put(&mut self, from: Endpoint, path: &Segments, body: &Whole<'_>, now: u64)
         requires bytes { length body.now.bytes.now ≤ longest_body }
         requires path { path_size path.now ≤ largest_path }
@@ -62,6 +62,7 @@ impl Bodies {
     {
         let mut place = free_place(&mut self.kept, &mut self.spare, from, path);
         place.fill(from, path, body, now);
+        // No memory is taken, since there is room for all places from the first.
         self.kept.push_reserved(place);
     }
 
@@ -76,7 +77,7 @@ impl Bodies {
     }
 }
 
-/// As many places as bodies are kept.
+/// A place for each body that is kept.
 fn empty_places(alloc: Global) -> Result<Vec<BodyPlace>, NoMemory>
     ensures { IfOk result (λ places. vec_len places ≡ most_bodies) }
 {
@@ -120,7 +121,7 @@ fn unused_place(kept: &mut Vec<BodyPlace>, spare: &mut Vec<BodyPlace>) -> BodyPl
     }
 }
 
-/// Where the body of an endpoint and a path is.
+/// The place of the body of an endpoint and a path. A function alone, since its clause then says just `position`.
 fn place_of(kept: &[BodyPlace], from: Endpoint, path: &Segments) -> Option<usize>
     ensures { result ≡ position (is_body_of from path.now) kept.now }
 {

@@ -56,7 +56,8 @@ impl BodyPlace {
         })
     }
 
-    /// Takes this body, which is given now, in the place of its own.
+    /// Takes this body, which is given now, in the place of its own. The rooms are filled anew, so that no memory is
+    /// taken.
     pub fn fill(&mut self, from: Endpoint, path: &Segments, body: &Whole<'_>, now: u64)
         requires bytes { length body.now.bytes.now ≤ longest_body }
         requires path { path_size path.now ≤ largest_path }

@@ -10,15 +10,16 @@ use std::alloc::Global;
 use std::marker::Model;
 use thing_ops::{Segments, piece};
 
-/// The most that the segments of a path and their bytes may be, together.
+/// The most that the segments of a path and their bytes may be, together: the size of a datagram, since each segment
+/// has a byte there beside its value.
 const LARGEST_PATH: usize = 1280;
 
-/// The segments of a path. Contracts see the list of them. Taking another path takes no memory.
+/// A path. Contracts see the list of its segments. They lie in one room, so that taking another path takes no memory.
 #[derive(Drop)]
 pub struct KeptPath {
     /// The bytes of the segments, one after another.
     bytes: Room<LARGEST_PATH>,
-    /// Where each segment ends.
+    /// The place after each segment.
     ends: Vec<usize>,
 }
 
@@ -35,7 +36,7 @@ impl Model for KeptPath {
 }
 
 impl KeptPath {
-    /// The path without segments. All its memory is taken here.
+    /// The empty path. All its memory is taken here.
     pub fn new(alloc: Global) -> Result<Self, NoMemory>
         ensures { IfOk result (λ p. p ≡ []) }
     {
@@ -64,6 +65,7 @@ impl KeptPath {
         ensures { self.new ≡ take (index + 1) path.now }
     {
         match path.get(index) {
+            // There is one, since the number is within the path.
             Some(segment) => self.push(segment),
             None => {}
         }
@@ -97,7 +99,7 @@ impl KeptPath {
         self.ends.push_reserved(self.bytes.len());
     }
 
-    /// How many segments there are.
+    /// The number of segments.
     fn len(&self) -> usize
         ensures { result ≡ length self.now }
     {

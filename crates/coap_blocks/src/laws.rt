@@ -1,13 +1,14 @@
-//! Laws of bodies and parts over whole histories, as contracts of functions that do nothing.
+//! Laws of bodies and parts over whole histories, as contracts of functions that do nothing, since a law is proved only
+//! as a clause.
 
 ghost use Rattle.coap_blocks.specs.Laws.{BodiesAreOnesOwn, BodiesFollowThePuts, PartsAreRows, TheLastBodyIsGot, WholeBodiesAreRows};
 
-/// What is kept is what the history of all puts says: not replaced, and among the last 16.
+/// The kept bodies are those that the history of all puts says: not replaced, and among the last 16.
 pub fn bodies_follow_the_puts()
     ensures { BodiesFollowThePuts }
 {}
 
-/// What is got is the last body that was put for that endpoint and path, whole (RFC 7959, section 2.4).
+/// `get` gives the last body that was put for that endpoint and path, whole (RFC 7959, section 2.4).
 pub fn the_last_body_is_got()
     ensures { TheLastBodyIsGot }
 {}
@@ -17,14 +18,14 @@ pub fn bodies_are_ones_own()
     ensures { BodiesAreOnesOwn }
 {}
 
-/// Each part, at any time, is what blocks that came make, in their order, all of one endpoint, code and path, from the
+/// Each part, at any time, is made of blocks that came, in their order, all of one endpoint, code and path, from the
 /// beginning of the body on (RFC 7959, section 2.5).
 pub fn parts_are_rows()
     ensures { PartsAreRows }
 {}
 
-/// What completes is what blocks that came before make together with the one that completes it: nothing completes
-/// without its first block, and none is joined twice.
+/// A whole body is made of blocks that came before and the one that completes it: none is whole without its first
+/// block, and no block is joined twice.
 pub fn whole_bodies_are_rows()
     ensures { WholeBodiesAreRows }
 {}

@@ -1,7 +1,7 @@
 //! Bodies that travel in blocks (RFC 7959): those of responses, which are kept for the requests for their later blocks,
 //! and those of requests, which are joined as their blocks come. This crate knows blocks, endpoints, paths and moments,
-//! and no message: which option a block comes in, and what is replied, is decided elsewhere. It has no clock and no
-//! socket, and takes memory when `Bodies` and `Parts` are made, which carry everything.
+//! and no message: other crates know the options of blocks and write the replies. It has no clock and no socket, and
+//! takes memory when `Bodies` and `Parts` are made, which carry everything.
 //!
 //! ```
 //! use coap_blocks::{Added, Bodies, Parts, Whole};
@@ -24,9 +24,9 @@
 //! }
 //! ```
 //!
-//! What `put` and `get` do is `with_body` and `body_for` of `specs/Bodies.antt`; what `add` does is `after_block` of
-//! `specs/Parts.antt`. The laws (`specs/Laws.antt`): what is kept is what the history of all puts says, what is got is
-//! the last body that was put for that endpoint and path, and what completes is the payloads of one row of blocks, from
+//! `put` and `get` are `with_body` and `body_for` of `specs/Bodies.antt`, and `add` is `after_block` of
+//! `specs/Parts.antt`. The laws (`specs/Laws.antt`): the history of all puts says which bodies are kept, `get` gives
+//! the last body that was put for that endpoint and path, and a whole body is the payloads of one row of blocks, from
 //! the first on, in order, of one endpoint, code and path.
 #![tactic(auto)]
 

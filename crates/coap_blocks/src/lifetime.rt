@@ -1,12 +1,12 @@
-//! How long bodies and parts are kept.
+//! The lifetime of bodies and parts.
 
 ghost use Rattle.std.specs.Prelude.{◌≡◌};
 ghost use Rattle.coap_blocks.specs.Paths.{lives};
 
-/// How long after it was given or begun a body is kept, in milliseconds: EXCHANGE_LIFETIME (RFC 7252, section 4.8.2).
-const EXCHANGE_LIFETIME: u64 = 247_000;
+use coap_msg::EXCHANGE_LIFETIME;
 
-/// Whether what began at a moment lives.
+/// Whether a body that was given or begun at a moment lives: for EXCHANGE_LIFETIME (RFC 7252, section 4.8.2). An older
+/// one is given up, since the other end doesn't go on with it (RFC 7959, section 2.5).
 pub fn lives(moment: u64, now: u64) -> bool
     ensures { result ≡ lives now moment }
 {

@@ -79,7 +79,7 @@ impl PartPlace {
         lives(self.moment, now)
     }
 
-    /// Puts the payload of a block after what came.
+    /// Puts the payload of a block after the bytes that came.
     pub fn put(&mut self, payload: &[u8])
         requires { length self.old.bytes + length payload.now ≤ longest_request }
         ensures { self.new ≡ extended payload.now self.old }
@@ -87,7 +87,7 @@ impl PartPlace {
         self.bytes.put(payload);
     }
 
-    /// What came.
+    /// The bytes that came.
     pub fn bytes(&self) -> &[u8]
         ensures { result.now ≡ self.now.bytes }
     {

@@ -14,7 +14,7 @@ use std::alloc::Global;
 use std::marker::Model;
 use thing_ops::Segments;
 
-/// How many parts are kept.
+/// The number of parts that are kept.
 const MOST_PARTS: usize = 8;
 
 /// The bodies of requests that come in blocks, as far as they came (RFC 7959, section 2.5). Contracts see the list of
@@ -56,8 +56,8 @@ impl Parts {
         })
     }
 
-    /// Joins a block that came now to the part of its endpoint, code and path, and says what is to be answered. Parts
-    /// that are too old are gone before.
+    /// Joins a block that came now to the part of its endpoint, code and path, and says the answer. Parts that are too
+    /// old are given up first.
     #[tactic(auto, using(crate::proofs::Joining::adds_bad, crate::proofs::Joining::adds_first, crate::proofs::Joining::adds_later))]
     pub fn add(
         &mut self,
@@ -106,7 +106,7 @@ impl Parts {
         self.give_up(place as usize);
     }
 
-    /// Gives up the parts that don't live now.
+    /// Gives up the parts that don't live now, one by one and not by `retain`, since their places become spare.
     fn give_up_over(&mut self, now: u64)
         ensures { self.new ≡ living now self.old }
     {
@@ -115,21 +115,21 @@ impl Parts {
         }
     }
 
-    /// Where the first part is that doesn't live now.
+    /// The place of the first part that doesn't live now.
     fn place_of_over(&self, now: u64) -> Option<usize>
         ensures { result ≡ position (λ p. not (lives now p.moment)) self.now }
     {
         place_of_over(self.kept.as_slice(), now)
     }
 
-    /// Where the part of an origin is.
+    /// The place of the part of an origin.
     fn place_of(&self, origin: &Origin<'_>) -> Option<usize>
         ensures { result ≡ place_of (origin_of origin.now) self.now }
     {
         place_of(self.kept.as_slice(), origin)
     }
 
-    /// How many bytes of the part at a place came.
+    /// The number of bytes that came of the part at a place.
     fn length_at(&self, place: usize) -> usize
         requires { place < length self.now }
         ensures length { result ≡ length (part_at place self.now).bytes }
@@ -182,7 +182,7 @@ impl Parts {
         }
     }
 
-    /// Begins an empty part of an origin now, if there is room; whether there was.
+    /// Begins an empty part of an origin now, if there is room, and says whether there was.
     fn has_begun(&mut self, origin: &Origin<'_>, now: u64) -> bool
         requires { path_size origin.now.path.now ≤ largest_path }
         ensures begun { result ≡ nat_lt (length self.old) most_parts }
@@ -206,6 +206,7 @@ impl Parts {
         ensures place { (place : ℕ) → result ≡ Added.Complete place → place < length self.new }
     {
         match self.place_of(origin) {
+            // Without a part it is Incomplete, since an earlier block is missing (RFC 7959, section 2.9.2).
             Some(place) => self.join_to(place, block, payload),
             None => Added::Incomplete,
         }
@@ -237,7 +238,7 @@ impl Parts {
     }
 }
 
-/// As many places as parts are kept.
+/// A place for each part that is kept.
 fn empty_places(alloc: Global) -> Result<Vec<PartPlace>, NoMemory>
     ensures count { IfOk result (λ places. vec_len places ≡ most_parts) }
     ensures room { IfOk result (λ places. most_parts ≤ vec_capacity places) }
@@ -258,14 +259,14 @@ fn is_bad(block: Block, payload: &[u8]) -> bool
     (block.more && payload.len() != size) || payload.len() > size
 }
 
-/// Where the part of an origin is.
+/// The place of the part of an origin.
 fn place_of(kept: &[PartPlace], origin: &Origin<'_>) -> Option<usize>
     ensures { result ≡ place_of (origin_of origin.now) kept.now }
 {
     kept.iter().position(|part| part.is_of(origin))
 }
 
-/// Where the first part is that doesn't live.
+/// The place of the first part that doesn't live. A function alone, since its clause then says just `position`.
 fn place_of_over(kept: &[PartPlace], now: u64) -> Option<usize>
     ensures { result ≡ position (λ p. not (lives now p.moment)) kept.now }
 {

@@ -39,7 +39,7 @@ impl<const N: usize> Room<N> {
         self.bytes.clear();
     }
 
-    /// Takes these bytes in the place of what was in it.
+    /// Takes these bytes in the place of its own.
     pub fn fill(&mut self, bytes: &[u8])
         requires { length bytes.now ≤ N }
         ensures { self.new ≡ bytes.now }
@@ -48,7 +48,7 @@ impl<const N: usize> Room<N> {
         self.bytes.extend_from_slice(bytes).unwrap();
     }
 
-    /// Puts bytes after what is in it.
+    /// Puts bytes after its own. There is no error, since the invariant says that there is room.
     pub fn put(&mut self, bytes: &[u8])
         requires { length self.old + length bytes.now ≤ N }
         ensures { self.new ≡ self.old ++ bytes.now }
@@ -56,7 +56,7 @@ impl<const N: usize> Room<N> {
         self.bytes.extend_from_slice(bytes).unwrap();
     }
 
-    /// How many bytes are in it.
+    /// The number of bytes in it.
     pub fn len(&self) -> usize
         ensures { result ≡ length self.now }
     {

@@ -1,4 +1,4 @@
-//! A whole response, of which blocks are given.
+//! A whole response that is given in blocks.
 
 use coap_msg::Code;
 

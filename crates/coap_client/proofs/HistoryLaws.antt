@@ -76,7 +76,7 @@ retransmissions_end sent s t now n old new did later comes =
       (let bound = timeout_bound a.0.id in omega arith),
     )
 
--- what tests say
+-- facts from tests
 either : (b c : Bool) → (b || c) ≡ true → (b ≡ true) ⊎ (c ≡ true)
 either true c e = inl refl
 either false c e = inr e

@@ -32,7 +32,7 @@ use Rattle.coap_client.specs.Requests.{IsSameRequest, LastIsOutstanding, LastIsR
 use Rattle.coap_client.proofs.StepLaws.{Keeps, Follows, keeps_due}
 use Rattle.coap_client.proofs.HistoryLaws.{keeps_delivered, follows, timeout_bound, before_last}
 
--- ---- what is outstanding is the last request that was sent
+-- ---- the outstanding request is the last one that was sent
 
 same_then : (a p o : Outstanding) → IsSameRequest a p → IsSameRequest p o → IsSameRequest a o
 same_then a p o x y = record {
@@ -88,7 +88,7 @@ last_is sent s (retransmitted before r t now due old new did later comes) o e =
 pub last_is_outstanding : LastIsOutstanding
 last_is_outstanding sent s o did e = let l = last_is sent s did o e in (l.before, l.request, l.last, l.same)
 
--- ---- it is what is sent again
+-- ---- it is the one that is sent again
 
 pub last_is_retransmitted : LastIsRetransmitted
 last_is_retransmitted sent s t now n old new did later comes =
@@ -234,7 +234,7 @@ blocks_in_order : (last : ℕ) (block2 block1 : Option Block) → last ≤ 23 �
 blocks_in_order last None block1 h = block1_in_order last block1 (omega arith)
 blocks_in_order last (Some b) block1 h = let bound = number_length (block_number b) in (record { order = h; number = omega arith; value = omega arith }, block1_in_order 23 block1 (omega arith))
 
--- what comes after the path: the format and the blocks
+-- the options after the path: the format and the blocks
 rest_in_order : (last : ℕ) (a : Asking) → last ≤ 12 → AreInOrder last (format_option a.format ++ both_blocks a.block2 a.block1)
 rest_in_order last a h = format_in_order last a.format h
   where

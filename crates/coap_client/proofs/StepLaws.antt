@@ -1,4 +1,4 @@
--- What each call keeps of what a client did before.
+-- The facts on the course of a client that each call keeps.
 use Rattle.std.proofs.Common.{◌≡◌, ◌⊎◌, ℕ, ◌+◌, ◌-◌, ◌<◌, ◌≤◌, ◌∙◌, Bool, true, false, cond, Option, Some, None, List, [], ◌∷◌, ◌++◌, length, get_or, set, inl, inr, refl, sym, ap, subst, arith}
 use Rattle.std.specs.Prelude.{Contains, AllPairs, nat_le}
 use Rattle.std.proofs.lemmas.Bool.Decides.{nat_tests, eqb_tells}
@@ -24,7 +24,7 @@ use Rattle.coap_client.specs.Answers.{is_for_request, is_for_observation}
 abbrev pub IsRested : Outstanding → Outstanding → Type 0
 IsRested a b = a.id ≡ b.id → a.first + 400000 < b.first
 
--- what holds of a client that sent these requests
+-- facts on a client that sent these requests
 pub record Follows (sent : List Outstanding) (s : State) : Type 0 where
   pub ids : length s.uses ≡ 65536
   pub remembered : (a : Outstanding) → Contains sent a → (m : ℕ) × (get_or s.uses a.id None ≡ Some m) × (a.first ≤ m)

@@ -1,4 +1,4 @@
--- What is answered to a response that comes in blocks, from the steps of the code.
+-- The answer to a response that comes in blocks, from the steps of the code.
 use Rattle.std.proofs.Common.{◌≡◌, ◌+◌, ◌/◌, ◌≤◌, ◌<◌, ◌++◌, ℕ, Bool, true, false, List, length, Option, refl, ap, sym, subst, ◌∙◌, arith}
 use Rattle.std.specs.Prelude.{nat_lt, if◌then◌else◌}
 use Rattle.std.proofs.Math.Nat.{div-le_self}
@@ -9,7 +9,7 @@ use Rattle.coap_client.specs.Transfers.{after_response, answer_to, is_broken, Ta
 use Rattle.coap_client.specs.declared.transfer.Taken.{Taken}
 use Rattle.coap_client.specs.declared.transfer.Taken.TheVariants as answer
 
--- what is answered, by the two tests
+-- the answer, by the two tests
 abbrev said_at : Option Block → List ℕ → List ℕ → Bool → Bool → Taken × List ℕ
 said_at b payload so_far broken long =
     if broken then (answer.Broken, so_far) else if long then (answer.TooLong, so_far) else (answer_to b (length so_far + length payload), so_far ++ payload)

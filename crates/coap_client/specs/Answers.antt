@@ -1,5 +1,5 @@
--- Which messages a client takes, and what each message means to it (RFC 7252, sections 4.2 and
--- 5.3.2; RFC 7641, section 3; RFC 7959, section 2).
+-- The messages that a client takes, and the meaning of each message to it (RFC 7252, sections 4.2 and 5.3.2; RFC 7641,
+-- section 3; RFC 7959, section 2).
 use Rattle.std.specs.Prelude.{◌-◌, ◌/◌, ◌^◌, ◌==◌, ◌&&◌, ◌||◌, ℕ, nat_lt, nat_le, length, map, Bool, true, false, List, [], ◌∷◌, Option, Some, None, option_map, is_some, unwrap_or, if◌then◌else◌}
 use Rattle.std.specs.List.{filter}
 use Rattle.std.specs.Str.{bytes_eq}
@@ -19,7 +19,7 @@ use Rattle.coap_client.specs.declared.meaning.Meaning.{Meaning}
 use Rattle.coap_client.specs.declared.meaning.Meaning.TheVariants as meant
 use Rattle.coap_msg.specs.Endpoints.{is_same_endpoint}
 
--- ---- which messages are taken
+-- ---- the messages that are taken
 
 -- an endpoint and a token are those of the outstanding request: tokens are those of one endpoint (section 5.3.2)
 abbrev pub is_for_request : Option Outstanding → Endpoint → List ℕ → Bool
@@ -49,14 +49,15 @@ is_response_class class = class == 2 || class == 4 || class == 5
 abbrev pub block2_values : List CoapOption → List (List ℕ)
 block2_values os = map (λ o. o.1) (filter (λ o. o.0 == BLOCK2) os)
 
--- What is read of these values: of none that there is no block, of one the block that it says. Nothing is read of one that
--- says no block (RFC 7959, section 2.2), nor of several, since the option doesn't repeat (RFC 7252, section 5.4.5).
+-- The reading of these values: of none that there is no block, of one the block that it says. Nothing is read of one
+-- that says no block (RFC 7959, section 2.2), nor of several, since the option doesn't repeat (RFC 7252, section
+-- 5.4.5).
 abbrev pub block2_in : List (List ℕ) → Option (Option Block)
 block2_in [] = Some None
 block2_in (value ∷ []) = option_map (λ b. Some b) (block_of value)
 block2_in (value ∷ other ∷ values) = None
 
--- which block of its body a response has, where its options say one
+-- the block of its body that a response has, where its options say one
 abbrev pub block2_of : List CoapOption → Option Block
 block2_of os = unwrap_or (block2_in (block2_values os)) None
 
@@ -79,7 +80,7 @@ takes s from m =
     is_response m && may_carry s.outstanding m.kind m.id
     && (is_for_request s.outstanding from m.token || is_for_observation s.observation from m.token)
 
--- ---- what a message means
+-- ---- the meaning of a message
 
 -- the number that at most three bytes say (RFC 7641, section 2)
 abbrev pub number_within : List ℕ → Option ℕ
@@ -112,15 +113,15 @@ abbrev pub notified : State → Endpoint → CoapMessage → Option ℕ
 notified s from m =
     if m.code / 32 == 2 && is_for_observation s.observation from m.token then sequence_of m.options else None
 
--- what a message that is taken means: a notification, or else a response
+-- the meaning of a message that is taken: a notification, or else a response
 abbrev pub meaning_taken : State → Option ℕ → Meaning
 meaning_taken s None = meant.Response
 meaning_taken s (Some sequence) =
     if is_newer (latest_of s.observation) s.moment sequence then meant.Value sequence else meant.Old
 
--- What any other message means, of this type: a Reset of the outstanding request, its empty
--- acknowledgement, or nothing (section 4.2). A Reset counts with every code, because its type says enough;
--- an acknowledgement is empty by code 0.00.
+-- The meaning of any other message, of this type: a Reset of the outstanding request, its empty acknowledgement, or
+-- nothing (section 4.2). A Reset counts with every code, because its type says enough; an acknowledgement is empty by
+-- code 0.00.
 abbrev pub meaning_else : State → Endpoint → CoapMessage → Type4 → Meaning
 meaning_else s from m Rst = if is_from_server s.outstanding from m.id then meant.Reset else meant.Foreign
 meaning_else s from m Ack = if m.code == 0 && is_from_server s.outstanding from m.id then meant.Received else meant.Foreign

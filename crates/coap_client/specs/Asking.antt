@@ -10,9 +10,9 @@ use Rattle.coap_msg.specs.Opts.{segment_options}
 use Rattle.coap_msg.specs.declared.message.Type4.TheVariants.{Con}
 use Rattle.coap_client.specs.declared.ask.Ask.{Ask}
 
--- what is asked, apart from where it lies in memory: the code, the segments of the path, whether to observe (true) or
--- to observe no longer (false), the content format of the payload, which block of its body this is, which block of the
--- response is wanted, and the payload
+-- an ask, apart from its place in memory: the code, the path, whether to observe (true) or to observe no longer
+-- (false), the content format of the payload, the block of its body that this is, the block of the response that is
+-- wanted, and the payload
 pub record Asking : Type 0 where
   pub code : ℕ
   pub path : List (List ℕ)
@@ -33,8 +33,8 @@ asking_of a = record {
   payload = a.payload.now;
 }
 
--- What may be asked: a code of class 0 that isn't 0.00 (section 12.1.1), segments of at most 255 bytes (section 5.10),
--- and blocks that an option can say (RFC 7959, section 2.2).
+-- The asks that are allowed: a code of class 0 that isn't 0.00 (section 12.1.1), segments of at most 255 bytes (section
+-- 5.10), and blocks that an option can say (RFC 7959, section 2.2).
 pub record MayAsk (a : Asking) : Type 0 where
   pub code : a.code ≢ 0
   pub class : a.code < 32

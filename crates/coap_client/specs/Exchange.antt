@@ -1,18 +1,18 @@
--- A CoAP client as one machine (RFC 7252, sections 4.2 to 4.4, 5.2 and 5.3; RFC 7641, section 3): what it
--- holds, and what each of its three calls does to that. At most one request is unanswered at a time, and at
--- most one resource is observed.
+-- A CoAP client as one machine (RFC 7252, sections 4.2 to 4.4, 5.2 and 5.3; RFC 7641, section 3): its contents, and the
+-- effect of each of its three calls on them. At most one request is unanswered at a time, and at most one resource is
+-- observed.
 --
--- What it holds is `State` of src/state.rt, a plain record that code and definitions share, because what follows is
+-- Its contents are `State` of src/state.rt, a plain record that code and definitions share, because the effects are
 -- then equations on it and a law can speak of any order of calls. It has the last `moment` that was handed in; the
 -- `outstanding` request; the `observation`; `next_token`, the number whose bytes are the next token; `next_id`, from
--- which the next id is sought; and in `uses` when each id was used last. An outstanding request has its `peer`, its
--- `id` and its `token`, the bytes that were `sent`, when they were sent `first`, how many of the moments for a
--- retransmission a call has `reached`, whether an empty message acknowledged it, and whether it `registers` the
--- observation. An observation has its `peer` and its `token`, and of the `latest` value, once there was one, the
--- sequence number and the moment.
+-- which the next id is sought; and in `uses` the moment at which each id was used last. An outstanding request has its
+-- `peer`, its `id` and its `token`, the bytes that were `sent`, the moment at which they were sent `first`, the number
+-- of moments for a retransmission that a call has `reached`, whether an empty message acknowledged it, and whether it
+-- `registers` the observation. An observation has its `peer` and its `token`, and of the `latest` value, once there was
+-- one, the sequence number and the moment.
 --
--- The message of an ask is in Asking.antt, ids and tokens are in Names.antt, times in Times.antt, and which messages
--- are taken (`takes`) and what they mean (`meaning`) in Answers.antt.
+-- The message of an ask is in Asking.antt, ids and tokens are in Names.antt, times in Times.antt, and the messages that
+-- are taken (`takes`) and their meaning (`meaning`) in Answers.antt.
 use Rattle.std.specs.Prelude.{◌≡◌, ◌<◌, ◌≤◌, ◌+◌, ◌-◌, ◌%◌, ◌^◌, ◌⊎◌, ℕ, Bool, true, false, List, length, slice_set, slice_index_or, Option, Some, None, IsSome, IfSome, is_some, if◌then◌else◌}
 use Rattle.coap_msg.specs.declared.constants.TheConstants.{LONGEST_MESSAGE}
 use Rattle.coap_msg.specs.declared.endpoint.Endpoint.{Endpoint}
@@ -96,8 +96,8 @@ begun s o kept = record {
 abbrev pub with_request : State → Endpoint → Asking → ℕ → State
 with_request s peer a id = begun s (request_for s peer a id) (is_some (kept_token s.observation peer a.observe))
 
--- Why an ask is refused: a request is unanswered (NSTART is 1, section 4.7); no id may be used; the message is too long
--- for a datagram (section 4.6).
+-- The faults for which an ask is refused: a request is unanswered (NSTART is 1, section 4.7); no id may be used; the
+-- message is too long for a datagram (section 4.6).
 abbrev pub IsRefused : State → Endpoint → Asking → ClientFault → Type 0
 IsRefused s peer a Busy = IsSome s.outstanding
 IsRefused s peer a IdsUsed = (s.outstanding ≡ None) × AreAllUsed s.uses s.moment
@@ -112,7 +112,7 @@ pub record Asks (s : State) (peer : Endpoint) (a : Asking) (n : ℕ) (old new : 
   pub written : IsWritten (spelling (message_for a id (token_for s peer a.observe))) n old new
   pub after : t ≡ with_request s peer a id
 
--- ---- what comes due
+-- ---- retransmissions
 
 -- a registration is outstanding
 abbrev pub registers : Option Outstanding → Bool
@@ -123,12 +123,12 @@ registers (Some o) = o.registers
 abbrev pub ended : State → State
 ended s = record s { outstanding = None; observation = if registers s.outstanding then None else s.observation }
 
--- how long ago a request was first sent
+-- the time since a request was first sent
 abbrev pub age : State → Outstanding → ℕ
 age s o = s.moment - o.first
 
--- What comes due at the moment of a state. A request whose time is over ends before anything else. It goes again, byte
--- for byte, at the first call at which another of its moments for a retransmission has come; a call that is late for
+-- The task at the moment of a state. A request whose time is over ends before anything else. It goes again, byte for
+-- byte, at the first call at which another of its moments for a retransmission has come; a call that is late for
 -- several sends it once, and the others are over.
 abbrev pub ComesDue : State → Due → List ℕ → List ℕ → State → Type 0
 ComesDue s due.TimedOut old new t =
@@ -139,7 +139,7 @@ ComesDue s (due.Send n) old new t =
 ComesDue s due.Nothing old new t =
     IfSome s.outstanding (λ o. (age s o < deadline o) × (retransmissions_by o (age s o) ≤ o.reached)) × (t ≡ s) × (new ≡ old)
 
--- ---- what comes
+-- ---- datagrams
 
 -- a registration is no longer outstanding
 abbrev pub registered : State → State
@@ -197,7 +197,7 @@ SaysBlock news.Old = Unit {0}
 SaysBlock news.Reset = Unit {0}
 SaysBlock news.Nothing = Unit {0}
 
--- What bytes from an endpoint do: their news and whether there is a reply, which is written, and the state
+-- The effect of bytes from an endpoint: their news and whether there is a reply, which is written, and the state
 -- afterwards.
 pub data Delivers (s : State) (from : Endpoint) (bytes : List ℕ) (told : Delivered) (old new : List ℕ) (t : State) : Type 0 where
   of_message : (m : CoapMessage) → Spells m bytes → IsReplied (empty_reply m.kind m.id (takes s from m)) told.reply old new

@@ -1,4 +1,4 @@
--- Inside the crate: what is found, the next message ID and the value of Block2.
+-- Inside the crate: the findings, the next message ID and the value of Block2.
 use Rattle.std.specs.Prelude.{ℕ, List, Option, Some, None, option_map}
 use Rattle.std.specs.Borrow.{Bor}
 use Rattle.std.specs.Option.{option_to_list}

@@ -13,7 +13,7 @@ use Rattle.coap_client.specs.Exchange.{at_moment, IsNew, Asks, request_for, Deli
 use Rattle.coap_client.specs.Answers.{takes}
 use Rattle.coap_client.specs.Times.{transmission_end}
 
--- What a client did so far: the requests that it sent, in their order, and what it holds now.
+-- The course of a client: the requests that it sent, in their order, and its contents now.
 pub data Did : List Outstanding → State → Type 0 where
   nothing : (first_id : ℕ) (s : State) → IsNew first_id s → Did [] s
   -- an ask was sent
@@ -25,24 +25,24 @@ pub data Did : List Outstanding → State → Type 0 where
   -- bytes came
   took : (sent : List Outstanding) (s t : State) (now : ℕ) (from : Endpoint) (bytes : List ℕ) (told : Delivered) (old new : List ℕ)
       → Did sent s → s.moment ≤ now → Delivers (at_moment now s) from bytes told old new t → Did sent t
-  -- it did what came due
+  -- it sent again what was due, or gave it up
   retransmitted : (sent : List Outstanding) (s t : State) (now : ℕ) (due : Due) (old new : List ℕ)
       → Did sent s → s.moment ≤ now → ComesDue (at_moment now s) due old new t → Did sent t
 
--- What is sent again is a request that was sent, byte for byte, and less than 93 seconds have passed since.
+-- A retransmission is a request that was sent, byte for byte, and less than 93 seconds have passed since.
 abbrev pub RetransmissionsEnd : Type 0
 RetransmissionsEnd =
     (sent : List Outstanding) (s t : State) (now n : ℕ) (old new : List ℕ)
     → Did sent s → s.moment ≤ now → ComesDue (at_moment now s) (Send n) old new t
     → (a : Outstanding) × Contains sent a × (take n new ≡ a.sent) × (now < transmission_end a) × (transmission_end a ≤ a.first + 93000)
 
--- What is taken comes from the peer of a request that was sent, and has its token.
+-- A message that is taken comes from the peer of a request that was sent, and has its token.
 abbrev pub TakenFromTheAsked : Type 0
 TakenFromTheAsked =
     (sent : List Outstanding) (s : State) (from : Endpoint) (m : CoapMessage) → Did sent s → takes s from m ≡ true
     → (a : Outstanding) × Contains sent a × (from ≡ a.peer) × (m.token ≡ a.token)
 
--- What is taken comes from the peer of the outstanding request or of the observation, and has its token.
+-- A message that is taken comes from the peer of the outstanding request or of the observation, and has its token.
 abbrev pub TakenFromAPeer : Type 0
 TakenFromAPeer =
     (s : State) (from : Endpoint) (m : CoapMessage) → takes s from m ≡ true

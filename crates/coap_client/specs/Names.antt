@@ -1,4 +1,4 @@
--- Endpoints, message IDs and tokens: which of them are one, and which come next (RFC 7252, sections 4.4 and 5.3.1).
+-- Endpoints, message IDs and tokens: those that are one, and those that come next (RFC 7252, sections 4.4 and 5.3.1).
 use Rattle.std.specs.Prelude.{◌≡◌, ◌<◌, ◌+◌, ◌-◌, ◌%◌, ℕ, nat_le, Bool, true, false, List, slice_index_or, Option, Some, None, if◌then◌else◌}
 use Rattle.std.specs.Int.{to_be_bytes, w64}
 use Rattle.coap_msg.specs.declared.endpoint.Endpoint.{Endpoint}
@@ -11,7 +11,7 @@ abbrev pub is_recent : ℕ → Option ℕ → Bool
 is_recent now None = false
 is_recent now (Some moment) = nat_le (now - moment) 400000
 
--- an id is used: by when each id was used last, which is when a request with it was first sent
+-- an id is used: by the moment at which each id was used last, at which a request with it was first sent
 abbrev pub is_used : List (Option ℕ) → ℕ → ℕ → Bool
 is_used uses now id = is_recent now (slice_index_or uses id None)
 

@@ -10,7 +10,8 @@ use Rattle.coap_client.specs.Asking.{Asking, MayAsk, message_for}
 use Rattle.coap_client.specs.Exchange.{at_moment, Asks, request_for, token_for, ComesDue}
 use Rattle.coap_client.specs.Laws.{Did}
 
--- One request at two moments: how many moments for a retransmission have come, and whether it was acknowledged, may differ.
+-- One request at two moments: the number of moments for a retransmission that have come, and whether it was
+-- acknowledged, may differ.
 pub record IsSameRequest (a o : Outstanding) : Type 0 where
   pub peer : a.peer ≡ o.peer
   pub id : a.id ≡ o.id
@@ -19,13 +20,14 @@ pub record IsSameRequest (a o : Outstanding) : Type 0 where
   pub registers : a.registers ≡ o.registers
   pub sent : a.sent ≡ o.sent
 
--- What is outstanding is the last request that was sent (section 4.7).
+-- The outstanding request is the last one that was sent (section 4.7).
 abbrev pub LastIsOutstanding : Type 0
 LastIsOutstanding =
     (sent : List Outstanding) (s : State) (o : Outstanding) → Did sent s → s.outstanding ≡ Some o
     → (before : List Outstanding) × (a : Outstanding) × (sent ≡ before ++ a ∷ []) × IsSameRequest a o
 
--- What is sent again is that one, byte for byte, and less than 93 seconds have passed since it was sent first (section 4.8.2).
+-- A retransmission is that one, byte for byte, and less than 93 seconds have passed since it was sent first (section
+-- 4.8.2).
 abbrev pub LastIsRetransmitted : Type 0
 LastIsRetransmitted =
     (sent : List Outstanding) (s t : State) (now n : ℕ) (old new : List ℕ)
@@ -46,7 +48,7 @@ pub record IsMessageOf (a : Outstanding) (m : CoapMessage) : Type 0 where
   pub code : m.code ≢ 0
   pub class : m.code < 32
 
--- What may be asked is sent as a message: it is within the bounds of one (section 3).
+-- An ask that is allowed is sent as a message: it is within the bounds of one (section 3).
 abbrev pub AsksAreMessages : Type 0
 AsksAreMessages =
     (sent : List Outstanding) (s t : State) (now : ℕ) (peer : Endpoint) (a : Asking) (n : ℕ) (old new : List ℕ)

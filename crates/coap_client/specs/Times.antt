@@ -3,8 +3,8 @@ use Rattle.std.specs.Prelude.{◌+◌, ◌*◌, ℕ, nat_lt, if◌then◌else◌
 use Rattle.coap_msg.specs.Transmission.{first_timeout}
 use Rattle.coap_client.specs.declared.outstanding.Outstanding.{Outstanding}
 
--- how many of the four moments for a retransmission (MAX_RETRANSMIT, section 4.8) have come so long after the first
--- sending: the timeout doubles each time (section 4.2)
+-- the number of the four moments for a retransmission (MAX_RETRANSMIT, section 4.8) that have come so long after the
+-- first sending: the timeout doubles each time (section 4.2)
 abbrev pub retransmissions_within : ℕ → ℕ → ℕ
 retransmissions_within timeout age =
     if nat_lt age timeout then 0
@@ -17,8 +17,8 @@ retransmissions_within timeout age =
 abbrev pub retransmissions_by : Outstanding → ℕ → ℕ
 retransmissions_by o age = if o.is_acknowledged then 0 else retransmissions_within (first_timeout o.id) age
 
--- How long after its first sending a request is given up: where nothing acknowledged it, when the timeout after the
--- fourth retransmission is over (section 4.2); else after 100 seconds (MAX_LATENCY, section 4.8.2).
+-- The time after its first sending at which a request is given up: where nothing acknowledged it, when the timeout
+-- after the fourth retransmission is over (section 4.2); else after 100 seconds (MAX_LATENCY, section 4.8.2).
 abbrev pub deadline : Outstanding → ℕ
 deadline o = if o.is_acknowledged then 100000 else 31 * first_timeout o.id
 

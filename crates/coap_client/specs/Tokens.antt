@@ -17,7 +17,8 @@ abbrev pub RegistrationIsObserved : Type 0
 RegistrationIsObserved =
     (sent : List Outstanding) (s : State) (o : Outstanding) → Did sent s → s.outstanding ≡ Some o → o.registers ≡ true → IsObservedAs s o
 
--- What is outstanding has a token that no request before it had, or that of the observation, and then it is no registration.
+-- The outstanding request has a token that no request before it had, or that of the observation, and then it is no
+-- registration.
 abbrev pub TokenIsNewOrObserved : Type 0
 TokenIsNewOrObserved =
     (before : List Outstanding) (a : Outstanding) (s : State) (o : Outstanding) → Did (before ++ a ∷ []) s → length before ≤ 65536 → s.outstanding ≡ Some o

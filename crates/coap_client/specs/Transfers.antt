@@ -1,12 +1,12 @@
--- What contracts see of a `Transfer`, and what a response does to that: the body of a response that comes in blocks, as
--- far as it came (RFC 7959, section 2.4).
+-- The view that contracts have of a `Transfer`, and the effect of a response on it: the body of a response that comes
+-- in blocks, as far as it came (RFC 7959, section 2.4).
 use Rattle.std.specs.Prelude.{◌≡◌, ◌+◌, ◌/◌, ◌==◌, ◌&&◌, ◌||◌, not, ℕ, Bool, false, List, ◌++◌, length, nat_lt, Option, Some, None, if◌then◌else◌}
 use Rattle.coap_msg.specs.declared.block.Block.{Block}
 use Rattle.coap_msg.specs.Blocks.{block_size, block_start}
 use Rattle.coap_client.specs.declared.transfer.Taken.{Taken}
 use Rattle.coap_client.specs.declared.transfer.Taken.TheVariants as answer
 
--- how many bytes a body has, at most
+-- the most bytes of a body
 abbrev pub longest_transfer : ℕ
 longest_transfer = 65536
 
@@ -24,7 +24,7 @@ answer_to None length_now = answer.Complete
 answer_to (Some b) length_now =
     if b.more then answer.More (record { number = length_now / block_size b; more = false; szx = b.szx }) else answer.Complete
 
--- what is answered to a response, and the body then
+-- the answer to a response, and the body then
 abbrev pub after_response : Option Block → List ℕ → List ℕ → Taken × List ℕ
 after_response b payload so_far =
     if is_broken b payload (length so_far) then (answer.Broken, so_far)

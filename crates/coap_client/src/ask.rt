@@ -1,4 +1,4 @@
-//! What is asked of a server, and the message that asks for it.
+//! The asks of a client, and their messages.
 
 ghost use Rattle.std.specs.Prelude.{◌≡◌, ◌≤◌, ◌<◌, ◌++◌, Bool, [], ◌∷◌, length, slice_index_or, All, IfOk, IfSome, OnOk, OnErr, take};
 ghost use Rattle.coap_msg.specs.Blocks.{IsBlock, block_bytes};
@@ -14,26 +14,26 @@ use coap_msg::{
 };
 use thing_ops::Segments;
 
-/// What is asked of a server.
+/// An ask of a server.
 #[derive(Clone, Copy)]
 pub struct Ask<'a> {
     /// The code of the request (RFC 7252, section 12.1.1).
     pub code: Code,
     /// The path.
     pub path: &'a Segments,
-    /// To observe (true), or to observe no longer (false; RFC 7641, section 2).
+    /// The wish to observe (true), or to observe no longer (false; RFC 7641, section 2).
     pub observe: Option<bool>,
     /// The content format of the payload (RFC 7252, section 12.3).
     pub format: Option<u16>,
-    /// Which block of its body this is, where that goes in blocks (Block1; RFC 7959, section 2.1).
+    /// The block of its body that this is, where that goes in blocks (Block1; RFC 7959, section 2.1).
     pub block1: Option<Block>,
-    /// Which block of the response is wanted, where that isn't the first (Block2).
+    /// The block of the response that is wanted, where that isn't the first (Block2).
     pub block2: Option<Block>,
     /// The payload.
     pub payload: &'a [u8],
 }
 
-/// Writes the message of an ask to the beginning of `out`, and returns how many bytes it has.
+/// Writes the message of an ask to the beginning of `out`, and returns the number of its bytes.
 pub fn put_ask(
     ask: &Ask<'_>,
     id: u16,
@@ -45,6 +45,7 @@ pub fn put_ask(
     ensures unchanged { OnErr result (out.new ≡ out.old) }
     ensures no_room { OnErr result (LONGEST_MESSAGE < length (spelling (message_for (asking_of ask.now) id token.now))) }
 {
+    // An array, since a client takes memory only when it is made.
     let mut room = [0; LONGEST_MESSAGE];
     let mut options = Opts::on(&mut room);
     put_options(ask, &mut options)?;
@@ -70,7 +71,8 @@ fn put_options(ask: &Ask<'_>, options: &mut Opts<'_>) -> Result<(), NoRoom>
     put_rest(ask, options)
 }
 
-/// Writes the options of an ask that come after its path.
+/// Writes the options of an ask that come after its path. A function of its own, since each option is proved together
+/// with those after it.
 fn put_rest(ask: &Ask<'_>, options: &mut Opts<'_>) -> Result<(), NoRoom>
     requires ask { MayAsk (asking_of ask.now) }
     requires order { last_number 0 options.old.list ≤ URI_PATH }
@@ -103,7 +105,7 @@ fn put_observe(options: &mut Opts<'_>, observe: Option<bool>) -> Result<(), NoRo
     }
 }
 
-/// Writes one Uri-Path for each segment.
+/// Writes one Uri-Path for each segment, by its number, as `Segments` has no iterator.
 fn put_path(options: &mut Opts<'_>, path: &Segments) -> Result<(), NoRoom>
     requires order { last_number 0 options.old.list ≤ URI_PATH }
     requires segments { All (λ segment. length segment ≤ LONGEST_SEGMENT) path.now }

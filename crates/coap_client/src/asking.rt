@@ -1,4 +1,4 @@
-//! How a request is sent, and sent again.
+//! The sending of a request, and its retransmissions.
 
 ghost use Rattle.std.specs.Prelude.{◌≡◌};
 ghost use Rattle.coap_client.specs.Names.{kept_token, token_after};
@@ -17,7 +17,7 @@ impl State {
     ghost use Rattle.coap_client.specs.Asking.{MayAsk, asking_of};
     ghost use Rattle.coap_client.specs.Exchange.{Asks, IsRefused, ComesDue, ended, begun};
 
-    /// Sends the request of an ask, or says why not.
+    /// Sends the request of an ask, or gives the fault for which it is refused.
     pub fn ask(
         &mut self,
         peer: Endpoint,
@@ -32,6 +32,7 @@ impl State {
         if self.outstanding.is_some() {
             return Err(ClientFault::Busy);
         }
+        // A match and not `let .. else`, since that says nothing of the case that fails.
         let id = match self.uses.free(self.next_id, self.moment) {
             Some(id) => id,
             None => return Err(ClientFault::IdsUsed),
@@ -58,6 +59,7 @@ impl State {
         ensures { self.new ≡ begun self.old request kept }
     {
         if request.registers {
+            // Bound first, as the kit follows no array from a field into a literal.
             let token = request.token;
             self.observation = Some(Observation {
                 peer: request.peer,
@@ -73,7 +75,7 @@ impl State {
         self.outstanding = Some(request);
     }
 
-    /// Does what comes due now.
+    /// Sends the outstanding request again, or ends it, where that is due now.
     pub fn due(&mut self, out: &mut [u8; LONGEST_MESSAGE]) -> Due
         ensures { ComesDue self.old result out.old out.new self.new }
     {
@@ -118,7 +120,7 @@ impl State {
     }
 }
 
-/// The token of what is observed, for a request to this server that ends it.
+/// The token of the observation, for a request to this server that ends it.
 fn kept_token(
     observation: &Option<Observation>,
     peer: Endpoint,

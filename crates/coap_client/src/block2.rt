@@ -6,9 +6,9 @@ ghost use Rattle.coap_msg.specs.Numbers.{number_of};
 ghost use Rattle.coap_client.specs.Answers.{block2_in as block2_in_values, block2_of as block2_of_options, block2_values};
 ghost use Rattle.coap_client.specs.Finding.{found_values};
 
-use coap_msg::{BLOCK2, Block, Options, read_block};
+use coap_msg::{BLOCK2, Block, LONGEST_BLOCK, Options, read_block};
 
-/// Which block of its body a response has, where its options say one.
+/// The block of its body that a response has, where its options say one.
 pub fn block2_of(options: &Options<'_>) -> Option<Block>
     ensures ok { result ≡ block2_of_options options.now }
     ensures block { IfSome result IsBlock }
@@ -19,8 +19,8 @@ pub fn block2_of(options: &Options<'_>) -> Option<Block>
     }
 }
 
-/// What is read of the Block2 options: that there is none, or the block that one says; nothing of one that says none, nor
-/// of several.
+/// The reading of the Block2 options: that there is none, or the block of the only one. One that says no block isn't
+/// read, nor are several, since the option doesn't repeat (RFC 7252, section 5.4.5).
 pub fn block2_in(options: &Options<'_>) -> Option<Option<Block>>
     ensures ok { result ≡ block2_in_values (block2_values options.now) }
     ensures block { IfSome result (λ block. IfSome block IsBlock) }
@@ -37,7 +37,7 @@ pub fn block2_in(options: &Options<'_>) -> Option<Option<Block>>
     block_in(found)
 }
 
-/// What is read of the value of the only Block2 option, where there is one.
+/// The reading of the value of the only Block2 option, where there is one.
 fn block_in(value: Option<&[u8]>) -> Option<Option<Block>>
     ensures ok { result ≡ block2_in_values (found_values value.entry) }
     ensures block { IfSome result (λ block. IfSome block IsBlock) }
@@ -56,14 +56,15 @@ fn block_of(value: &[u8]) -> Option<Block>
     ensures ok { result ≡ block_of_value value.now }
     ensures block { IfSome result IsBlock }
 {
-    if value.len() > 3 {
+    if value.len() > LONGEST_BLOCK {
         return None;
     }
     fits_24_bits(value);
     read_block(value)
 }
 
-/// For the proof: what up to three bytes say has 24 bits.
+/// For the proof: a number of up to three bytes has 24 bits. The bytes get names, since the range of one that is lent
+/// is known once it is read.
 fn fits_24_bits(value: &[u8])
     requires { length value.now ≤ 3 }
     ensures { number_of value.now < 2 ^ 24 }

@@ -1,4 +1,4 @@
-//! The CoAP client: asks, takes datagrams, and sends again what is due.
+//! The CoAP client: asks, takes datagrams, and sends requests again when they are due.
 
 ghost use Rattle.std.specs.Prelude.{IfOk};
 
@@ -9,7 +9,7 @@ use coap_msg::{Endpoint, LONGEST_MESSAGE};
 use std::alloc::Global;
 use std::marker::Model;
 
-/// The client's side of all its exchanges. Contracts see what it holds (`State`, which specs/Exchange.antt explains).
+/// The client's side of all its exchanges. Contracts see its contents (`State`, which specs/Exchange.antt explains).
 ///
 /// Each call takes the moment at which it is made, in milliseconds, none of which is before the last one.
 #[derive(Drop)]
@@ -30,7 +30,8 @@ impl Client {
     ghost use Rattle.coap_client.specs.Asking.{MayAsk, asking_of};
     ghost use Rattle.coap_client.specs.Exchange.{IsNew, at_moment, Asks, IsRefused, Delivers, SaysBlock, ComesDue};
 
-    /// A client whose first message has this id. All its memory is taken here.
+    /// A client whose first message has this ID, which is handed in, since this crate draws no numbers. All its memory
+    /// is taken here.
     pub fn new(alloc: Global, first_id: u16) -> Result<Client, NoMemory>
         ensures { IfOk result (λ c. IsNew first_id c) }
     {
@@ -85,8 +86,8 @@ impl Client {
         self.state.deliver(from, bytes, out)
     }
 
-    /// Does what is due at a moment: a message to be sent again, to the peer of the request, is written to the
-    /// beginning of `out`.
+    /// Sends the outstanding request again, or ends it, where that is due at a moment: a message to be sent again, to
+    /// the peer of the request, is written to the beginning of `out`.
     pub fn due(&mut self, now: u64, out: &mut [u8; LONGEST_MESSAGE]) -> Due
         requires { self.old.moment ≤ now }
         ensures ok { ComesDue (at_moment now self.old) result out.old out.new self.new }

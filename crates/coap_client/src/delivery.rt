@@ -1,4 +1,4 @@
-//! What a datagram does to a client.
+//! The effect of a datagram on a client.
 
 ghost use Rattle.std.specs.Prelude.{◌≡◌};
 ghost use Rattle.coap_msg.specs.MessageOf.{message_of};
@@ -61,7 +61,7 @@ impl State {
         }
     }
 
-    /// Does what a message of this meaning asks for.
+    /// Has the effect of a message of this meaning.
     fn follow(&mut self, meaning: Meaning, from: Endpoint, token: &[u8])
         ensures { self.new ≡ after self.old from token.now meaning }
     {
@@ -75,7 +75,7 @@ impl State {
         }
     }
 
-    /// Notes a value of what is observed.
+    /// Notes a value of the observed target.
     fn note(&mut self, sequence: u32)
         ensures { self.new ≡ valued self.old sequence }
     {

@@ -1,6 +1,6 @@
-//! What a client has to do at a moment: send again, or give up.
+//! The task of a client at a moment: to send again, or to give up.
 
-/// What a client is to do at a moment.
+/// The task of a client at a moment.
 #[derive(Clone, Copy, Debug, PartialEq, Eq)]
 pub enum Due {
     /// Nothing.

@@ -3,7 +3,8 @@
 use coap_msg::NoRoom;
 use thiserror::Error;
 
-/// Why an ask is refused: the first of these that holds. `IsRefused` of specs/Exchange.antt says when each does.
+/// The fault for which an ask is refused: the first of these that holds. `IsRefused` of specs/Exchange.antt says when
+/// each does.
 #[derive(Clone, Copy, Debug, PartialEq, Eq, Drop, Error)]
 pub enum ClientFault {
     /// A request is unanswered (RFC 7252, section 4.7).
@@ -21,6 +22,7 @@ impl From<NoRoom> for ClientFault {
     ghost use Rattle.std.specs.Prelude.{◌≡◌};
     ghost use Rattle.coap_client.specs.declared.fault.ClientFault.TheVariants.{NoRoom as no_room};
 
+    // By hand, since this clause is to name the fault that `?` makes.
     ghost from_gives = { λ _ fault. fault ≡ no_room };
 
     fn from(_error: NoRoom) -> ClientFault {

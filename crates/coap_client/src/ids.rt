@@ -1,4 +1,4 @@
-//! When message IDs were used.
+//! The moments at which message IDs were used.
 
 ghost use Rattle.std.specs.Prelude.{◌≡◌, ◌<◌, ◌≤◌, ℕ, None, Some, length, slice_index_or, slice_set, IfOk};
 ghost use Rattle.coap_client.specs.Names.{is_recent};
@@ -8,13 +8,14 @@ use crate::NoMemory;
 use std::alloc::Global;
 use std::marker::Model;
 
-/// How many message IDs there are.
+/// The number of message IDs.
 const IDS: u32 = 65_536;
 
-/// How long an id isn't used again, in milliseconds.
+/// The time for which an ID isn't used again, in milliseconds: more than EXCHANGE_LIFETIME, since it may be in use so
+/// long (RFC 7252, section 4.4).
 const REST: u64 = 400_000;
 
-/// When each message ID was used last, seen as a list by id.
+/// The moment at which each message ID was used last, seen as a list by ID.
 #[derive(Drop)]
 pub struct Ids {
     uses: Vec<Option<u64>>,

@@ -1,4 +1,4 @@
-//! Laws of the client, as contracts of functions that do nothing.
+//! Laws of the client, as contracts of functions that do nothing, since a law is proved only as a clause.
 
 ghost use Rattle.coap_client.specs.Laws.{RetransmissionsEnd, TakenFromTheAsked, TakenFromAPeer, IdsRest};
 ghost use Rattle.coap_client.specs.Requests.{LastIsOutstanding, LastIsRetransmitted, IdsDiffer, AsksAreMessages};
@@ -9,12 +9,12 @@ pub fn retransmissions_end()
     ensures { RetransmissionsEnd }
 {}
 
-/// What is taken comes from a server that was asked (RFC 7252, section 5.3.2).
+/// A message that is taken comes from a server that was asked (RFC 7252, section 5.3.2).
 pub fn taken_from_the_asked()
     ensures { TakenFromTheAsked }
 {}
 
-/// What is taken comes from the server of the outstanding request or of what is observed.
+/// A message that is taken comes from the server of the outstanding request or of the observation.
 pub fn taken_from_a_peer()
     ensures { TakenFromAPeer }
 {}
@@ -24,12 +24,12 @@ pub fn ids_rest()
     ensures { IdsRest }
 {}
 
-/// What is outstanding is the last request that was sent (RFC 7252, section 4.7).
+/// The outstanding request is the last one that was sent (RFC 7252, section 4.7).
 pub fn last_is_outstanding()
     ensures { LastIsOutstanding }
 {}
 
-/// What is sent again is the last request, byte for byte, less than 93 seconds after it was sent first (RFC 7252, section
+/// A retransmission is the last request, byte for byte, less than 93 seconds after it was sent first (RFC 7252, section
 /// 4.8.2, MAX_TRANSMIT_WAIT).
 pub fn last_is_retransmitted()
     ensures { LastIsRetransmitted }
@@ -40,7 +40,7 @@ pub fn ids_differ()
     ensures { IdsDiffer }
 {}
 
-/// What may be asked is sent as a message (RFC 7252, section 3).
+/// An ask that is allowed is sent as a message (RFC 7252, section 3).
 pub fn asks_are_messages()
     ensures { AsksAreMessages }
 {}

@@ -1,6 +1,7 @@
-//! The exchanges of a CoAP client (RFC 7252; RFC 7641; RFC 7959): it asks, sends again until there is a response, and observes.
-//! The client has no clock and no socket: moments and datagrams are handed in, and what is to be sent is written into
-//! the caller's room. It takes memory once, when it is made. `Client`, `Ask`, `Delivered` and `Due` carry everything.
+//! The exchanges of a CoAP client (RFC 7252; RFC 7641; RFC 7959): it asks, sends again until there is a response, and
+//! observes. The client has no clock and no socket: moments and datagrams are handed in, and bytes to be sent are
+//! written into the caller's room. It takes memory once, when it is made. `Client`, `Ask`, `Delivered` and `Due` carry
+//! everything.
 //!
 //! ```
 //! use coap_client::{Ask, Client, Due, News};
@@ -25,11 +26,11 @@
 //! }
 //! ```
 //!
-//! What a client holds and what its calls do is one machine, `specs/Exchange.antt`. The contract in a sentence: each
-//! call does what the machine does (`Asks` and `IsRefused`, `Delivers`, `ComesDue`), for all that comes in any order.
-//! The laws: a retransmission is the last request, byte for byte, less than 93 seconds after it was sent first, what is
-//! taken comes from a peer that was asked, an id isn't used again within 400 seconds, the ids of the first 65,536 requests
-//! differ, and so do the tokens of registrations.
+//! The contents of a client and the effects of its calls are one machine, `specs/Exchange.antt`. The contract in a
+//! sentence: each call does the same as the machine (`Asks` and `IsRefused`, `Delivers`, `ComesDue`), for all that
+//! comes in any order. The laws: a retransmission is the last request, byte for byte, less than 93 seconds after it was
+//! sent first, a message that is taken comes from a peer that was asked, an id isn't used again within 400 seconds, the
+//! ids of the first 65,536 requests differ, and so do the tokens of registrations.
 #![tactic(auto)]
 
 mod ask;

@@ -1,4 +1,4 @@
-//! What a message means to a client.
+//! The meaning of a message to a client.
 
 ghost use Rattle.std.specs.Prelude.{◌≡◌, ◌/◌, IsTrue, ◌↔◌};
 ghost use Rattle.coap_msg.specs.MessageOf.{message_of};
@@ -8,12 +8,15 @@ use crate::block2::block2_in;
 use crate::observation::Observation;
 use crate::outstanding::Outstanding;
 use crate::state::State;
-use coap_msg::{Endpoint, Message, OBSERVE, Options, Type4, number_of};
+use coap_msg::{
+    CLIENT_ERROR, DETAILS, Endpoint, Message, OBSERVE, Options, SERVER_ERROR, SUCCESS, Type4,
+    number_of,
+};
 
-/// What a message means to a client. The first three are said of messages that are taken.
+/// The meaning of a message to a client. The first three are said of messages that are taken.
 #[derive(Clone, Copy)]
 pub enum Meaning {
-    /// A value of what is observed, newer than those before it, with its sequence number.
+    /// A value of the observed target, newer than those before it, with its sequence number.
     Value(u32),
     /// A value that isn't newer.
     Old,
@@ -42,7 +45,7 @@ impl State {
                 || self.is_for_observation(from, message.token))
     }
 
-    /// What a message means.
+    /// The meaning of a message.
     pub fn meaning(&self, from: Endpoint, message: &Message<'_>) -> Meaning
         ensures { result ≡ meaning self.now from (message_of message.now) }
     {
@@ -53,7 +56,8 @@ impl State {
         }
     }
 
-    /// Whether a message of this type and ID may carry a response.
+    /// Whether a message of this type and ID may carry a response. An acknowledgement needs the outstanding request's,
+    /// so that a late one of a registration is no new value.
     fn may_carry(&self, kind: Type4, id: u16) -> bool
         ensures { result ≡ may_carry self.now.outstanding kind id }
     {
@@ -77,7 +81,7 @@ impl State {
         }
     }
 
-    /// Whether a message from this endpoint with this token belongs to what is observed.
+    /// Whether a message from this endpoint with this token belongs to the observation.
     pub fn is_for_observation(&self, from: Endpoint, token: &[u8]) -> bool
         ensures { result ≡ is_for_observation self.now.observation from token.now }
     {
@@ -91,14 +95,14 @@ impl State {
     fn notified(&self, from: Endpoint, message: &Message<'_>) -> Option<u32>
         ensures { result ≡ notified self.now from (message_of message.now) }
     {
-        if message.code / 32 == 2 && self.is_for_observation(from, message.token) {
+        if message.code / DETAILS == SUCCESS && self.is_for_observation(from, message.token) {
             sequence_of(&message.options)
         } else {
             None
         }
     }
 
-    /// What a message means that is taken, a notification with this sequence number or else a response.
+    /// The meaning of a message that is taken, a notification with this sequence number or else a response.
     fn meaning_taken(&self, notified: Option<u32>) -> Meaning
         ensures { result ≡ meaning_taken self.now notified }
     {
@@ -128,7 +132,7 @@ impl State {
 
     ghost use Rattle.coap_client.specs.Answers.{is_from_server};
 
-    /// What a message means that isn't taken.
+    /// The meaning of a message that isn't taken. A Reset counts with every code, because its type says enough.
     fn meaning_else(&self, from: Endpoint, message: &Message<'_>) -> Meaning
         ensures { result ≡ meaning_else self.now from (message_of message.now) message.now.kind }
     {
@@ -162,19 +166,19 @@ impl State {
     }
 }
 
-/// Whether a message is a response: of one of their classes, and what it says of blocks can be read (RFC 7252, section
-/// 5.4.1).
+/// Whether a message is a response: of one of their classes, and with a Block2 that can be read, if any, since that
+/// option is critical (RFC 7252, section 5.4.1).
 fn is_response(message: &Message<'_>) -> bool
     ensures { result ≡ is_response_seen (message_of message.now) }
 {
-    is_response_class(message.code / 32) && block2_in(&message.options).is_some()
+    is_response_class(message.code / DETAILS) && block2_in(&message.options).is_some()
 }
 
 /// Whether messages of a class are responses (RFC 7252, section 5.9).
 fn is_response_class(class: u8) -> bool
     ensures { result ≡ is_response_class class }
 {
-    class == 2 || class == 4 || class == 5
+    class == SUCCESS || class == CLIENT_ERROR || class == SERVER_ERROR
 }
 
 /// The sequence number that the options say.
@@ -189,11 +193,14 @@ fn sequence_of(options: &Options<'_>) -> Option<u32>
     None
 }
 
+/// The most bytes of the value of Observe (RFC 7641, section 2).
+const LONGEST_OBSERVE: usize = 3;
+
 /// The number that at most three bytes say (RFC 7641, section 2).
 fn number_within(value: &[u8]) -> Option<u32>
     ensures { result ≡ number_within value.now }
 {
-    if value.len() <= 3 {
+    if value.len() <= LONGEST_OBSERVE {
         Some(number_of(value))
     } else {
         None

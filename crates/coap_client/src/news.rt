@@ -2,10 +2,10 @@
 
 use coap_msg::Block;
 
-/// What a datagram that was delivered brings.
+/// The effect of a datagram that was delivered.
 #[derive(Clone, Copy, Debug)]
 pub struct Delivered<'b> {
-    /// How many bytes the acknowledgement or the Reset has that goes to where the datagram came from.
+    /// The number of bytes of the acknowledgement or the Reset that goes to the sender of the datagram.
     pub reply: Option<usize>,
     /// Its news.
     pub news: News<'b>,
@@ -19,7 +19,7 @@ pub enum News<'b> {
     /// A response, with its code, the block of its body that its Block2 says (RFC 7959, section 2.1), and its payload. The
     /// request and the observation that it belongs to have ended.
     Answered(u8, Option<Block>, &'b [u8]),
-    /// A value of what is observed, newer than all before it (RFC 7641, section 3.4).
+    /// A value of the observed target, newer than all before it (RFC 7641, section 3.4).
     Value(&'b [u8]),
     /// A value that isn't newer than one that came.
     Old,

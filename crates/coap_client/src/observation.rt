@@ -1,8 +1,8 @@
-//! The observation of a client, and when its values are newer.
+//! The observation of a client, and the order of its values.
 
 use coap_msg::{Endpoint, is_same_endpoint};
 
-/// What is observed (RFC 7641, section 1.1).
+/// An observation (RFC 7641, section 1.1).
 #[derive(Clone, Copy, Drop)]
 pub struct Observation {
     /// The server.
@@ -13,7 +13,7 @@ pub struct Observation {
     pub latest: Option<Latest>,
 }
 
-/// When a value came.
+/// The arrival of a value.
 #[derive(Clone, Copy, Drop)]
 pub struct Latest {
     /// Its sequence number, the number that its Observe option says.
@@ -50,7 +50,7 @@ ghost use Rattle.coap_client.specs.Answers.{is_newer_than};
 /// Half of the sequence numbers: those within this distance after a number are later than it (RFC 7641, section 3.4).
 const HALF: u32 = 1 << 23;
 
-/// How long a value may be reordered in the network, in milliseconds (RFC 7641, section 3.4).
+/// The time within which values may be reordered in the network, in milliseconds (RFC 7641, section 3.4).
 const REORDERED: u64 = 128_000;
 
 /// Whether a value with this sequence number that comes now is newer than this one.

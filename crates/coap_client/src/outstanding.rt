@@ -1,4 +1,4 @@
-//! The request that is unanswered, and when it is sent again.
+//! The request that is unanswered, and the times of its retransmissions.
 
 ghost use Rattle.std.specs.Prelude.{◌≡◌, ◌≤◌, ◌<◌};
 ghost use Rattle.coap_client.specs.Times.{retransmissions_within};
@@ -14,39 +14,42 @@ pub struct Outstanding {
     pub id: u16,
     /// The token.
     pub token: [u8; 8],
-    /// When the message was sent first, in milliseconds.
+    /// The moment at which the message was sent first, in milliseconds.
     pub first: u64,
-    /// How many of the moments for a retransmission have come and were seen to, which isn't how many were sent: a late
-    /// call sends one for several.
+    /// The number of moments for a retransmission that have come and were seen to. Fewer may have been sent, since a
+    /// late call sends one for several.
     pub reached: u8,
     /// Whether an empty acknowledgement came for it.
     pub is_acknowledged: bool,
-    /// Whether it is the registration of what is observed.
+    /// Whether it is the registration of the observation.
     pub registers: bool,
     /// The message, copied when it is sent, because a retransmission is then the same bytes by its clause.
     pub sent: BoundedBytes<LONGEST_MESSAGE>,
 }
 
-/// How long after its first sending a request is given up that was acknowledged, in milliseconds.
+/// The time after its first sending at which a request that was acknowledged is given up, in milliseconds.
 const PATIENCE: u64 = 100_000;
+
+/// All timeouts together, in first ones, as each is twice the one before (RFC 7252, section 4.2).
+const ALL_TIMEOUTS: u64 = 31;
 
 impl Outstanding {
     ghost use Rattle.std.specs.Prelude.{◌≡◌, Some};
     ghost use Rattle.coap_client.specs.Times.{deadline, retransmissions_by};
     ghost use Rattle.coap_client.specs.Answers.{is_for_request, is_request_id, is_from_server};
 
-    /// How long after its first sending it is given up, in milliseconds.
+    /// The time after its first sending at which it is given up, in milliseconds.
     pub fn deadline(&self) -> u64
         ensures { result ≡ deadline self.now }
     {
         if self.is_acknowledged {
             PATIENCE
         } else {
-            31 * first_timeout(self.id)
+            ALL_TIMEOUTS * first_timeout(self.id)
         }
     }
 
-    /// How many of its moments for a retransmission have come so long after its first sending.
+    /// The number of its moments for a retransmission that have come so long after its first sending.
     pub fn retransmissions_by(&self, age: u64) -> u8
         ensures { result ≡ retransmissions_by self.now age }
     {
@@ -72,7 +75,8 @@ impl Outstanding {
     }
 }
 
-/// How many moments for a retransmission have come so long after the first sending.
+/// The number of moments for a retransmission that have come so long after the first sending. The one with number n comes
+/// after 2^n - 1 timeouts, as each is twice the one before (RFC 7252, section 4.2).
 fn retransmissions_within(timeout: u64, age: u64) -> u8
     requires { timeout ≤ 3000 }
     ensures { result ≡ retransmissions_within timeout age }

@@ -13,7 +13,7 @@ use std::marker::Model;
 /// The most bytes of a body of a response.
 const LONGEST_TRANSFER: usize = 65_536;
 
-/// What becomes of a response, or of a block of one (RFC 7959, section 2.4).
+/// The outcome of a response, or of a block of one (RFC 7959, section 2.4).
 #[derive(Clone, Copy, Debug, PartialEq, Eq)]
 pub enum Taken {
     /// It doesn't go on where the body so far ends, or isn't as long as it says; nothing changed.
@@ -66,6 +66,7 @@ impl Transfer {
         if payload.len() > LONGEST_TRANSFER - length {
             return Taken::TooLong;
         }
+        // There is room, since that of the longest body was taken at first.
         self.bytes.extend_from_slice(payload).unwrap();
         answer_to(block, length + payload.len())
     }
@@ -90,7 +91,7 @@ fn is_broken(block: Option<Block>, payload: &[u8], length: usize) -> bool
     }
 }
 
-/// What is to be done once a response was taken, after which the body has this length.
+/// The answer to a response that was taken, after which the body has this length.
 fn answer_to(block: Option<Block>, length: usize) -> Taken
     requires block { IfSome block IsBlock }
     requires length { length ≤ longest_transfer }

@@ -27,7 +27,7 @@ last_of capacity history a = last_after capacity [] history a
 
 -- ---- living
 
--- who lives later lived before
+-- a request that lives later lived before
 lived : (m n : ℕ) (moment limit : ℕ) → m ≤ n → nat_lt (n - moment) limit ≡ true → nat_lt (m - moment) limit ≡ true
 lived m n moment limit h e = grind (arith, nat_tests)
 
@@ -52,7 +52,7 @@ list_any-map : {A B : Type 0} (p : B → Bool) (f : A → B) (xs : List A) → l
 list_any-map p f [] = refl
 list_any-map p f (x ∷ xs) = ap (λ b. p (f x) || b) (list_any-map p f xs)
 
--- what is found passes somewhere
+-- an element that is found passes somewhere
 found_at : {A : Type 0} (x : A) (o : Option A) (n b : Bool) → (o ≡ None → n ≡ false) → cond b (Some x) o ≡ None → (b || n) ≡ false
 found_at x o n true rec e = cc
 found_at x o n false rec e = rec e

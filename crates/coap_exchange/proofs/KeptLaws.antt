@@ -1,4 +1,4 @@
--- What a call of the code keeps of its slots.
+-- The facts on slots that a call of the code keeps.
 use Rattle.std.proofs.Common.{◌++◌, length-append, ◌≡◌, ◌≢◌, ◌+◌, ◌≤◌, ◌<◌, ◌==◌, ℕ, zero, suc, Bool, true, false, cond, List, [], ◌∷◌, map, length, get_or, set, Option, Some, None, inl, inr, ◌∙◌, sym, refl, ap, subst, arith}
 use Rattle.std.specs.Prelude.{All, AllPairs}
 use Rattle.std.specs.List.{find}
@@ -126,7 +126,7 @@ pairs_stay R entries slot e xs hasnt h i j d before below =
     subst (λ z. R z (entry_at (set entries slot e) (get_or xs j d))) (sym (entry_stays entries slot (get_or xs i d) e (not_at slot xs hasnt i d i_below)))
     (subst (R (entry_at entries (get_or xs i d))) (sym (entry_stays entries slot (get_or xs j d) e (not_at slot xs hasnt j d below))) (h i j d before below))
 
--- what isn't found passes nowhere
+-- a test by which nothing is found passes nowhere
 none_found_at : (p : ℕ → Bool) (x : ℕ) (o : Option ℕ) (b : Bool) → p x ≡ b → cond b (Some x) o ≡ None → (p x ≡ false) × (o ≡ None)
 none_found_at p x o true t e = absurd cc
 none_found_at p x o false t e = (t, e)
@@ -229,7 +229,7 @@ kept_with x y slot e kept has moment alive new y_capacity y_moment y_entries y_r
       order_count = ap (λ (t : Lists). length t.lists) y_order ∙ (length-set x.order.lists 0 _ ∙ kept.order_count);
     }
 
--- ---- which lists don't have a slot
+-- ---- the lists that don't have a slot
 
 -- a free slot, once it was taken from the free ones
 pub taken_from_kinds : (x : Inside) (slot : ℕ) → IsKept x → is_among slot (free_slots x) ≡ true → (i : ℕ) → is_among slot (list_at i (without_at 0 slot x.kinds)) ≡ false
@@ -299,7 +299,7 @@ in_its_bucket x slot kept has below =
     subst (λ l. is_among slot l ≡ true) (sym is)
     (filter_has (λ s. bucket_at x.entries.items x.capacity s == bucket_at x.entries.items x.capacity slot) slot (living_slots x) has (same_slot (bucket_at x.entries.items x.capacity slot)))
 
--- ---- what is seen once a request was admitted
+-- ---- the table once a request was admitted
 
 seen_stays : (entries : List Entry) (replies : List (Option (List ℕ))) (slot : ℕ) (e : Entry) (r : Option (List ℕ)) (xs : List ℕ) → is_among slot xs ≡ false
     → map (exchange_at (set entries slot e) (set replies slot r)) xs ≡ map (exchange_at entries replies) xs

@@ -1,4 +1,4 @@
--- Lists: what is found in a mapped list, how often something is in one, and what a filter keeps.
+-- Lists: searches in a mapped list, the number of times that something is in one, and filters.
 use Rattle.std.proofs.Common.{◌≡◌, ◌+◌, ◌≤◌, ◌<◌, ℕ, Bool, true, false, cond, List, [], ◌∷◌, ◌++◌, map, drop, get_or, length, Option, Some, None, refl, ap, arith, drop-cons, add-one}
 use Rattle.std.specs.Option.{option_map}
 use Rattle.std.specs.Prelude.{slice_get}
@@ -32,7 +32,7 @@ pub find_agreeing : {A : Type 0} (p q : A → Bool) (xs : List A) → AllByRecur
 find_agreeing p q [] h = refl
 find_agreeing p q (x ∷ xs) h = agreeing x (find p xs) (find q xs) (p x) (q x) h.0 (find_agreeing p q xs h.1)
 
--- what is found passes each test that is counted
+-- an element that is found passes each test that is counted
 counted_at : {A : Type 0} (p : A → Bool) (y x : A) (o : Option A) (n : ℕ) (b : Bool) → (o ≡ Some x → 1 ≤ n) → cond b (Some y) o ≡ Some x → p x ≡ true → 1 ≤ cond (p y) 1 0 + n
 counted_at p y x o n true rec e h = let same : y ≡ x = cc in let passes : p y ≡ true = cc in rw passes (omega arith)
 counted_at p y x o n false rec e h = let more : 1 ≤ n = rec e in omega arith
@@ -41,7 +41,7 @@ pub found_is_counted : {A : Type 0} (p q : A → Bool) (xs : List A) (x : A) →
 found_is_counted p q [] x e h = cc
 found_is_counted p q (y ∷ ys) x e h = counted_at p y x (find q ys) (times p ys) (q y) (λ r. found_is_counted p q ys x r h) e h
 
--- what is counted nowhere isn't found
+-- an element that is counted nowhere isn't found
 uncounted_at : {A : Type 0} (y : A) (o : Option A) (n : ℕ) (b : Bool) → (n ≡ 0 → o ≡ None) → cond b 1 0 + n ≡ 0 → cond b (Some y) o ≡ None
 uncounted_at y o n true rec e = absurd (omega arith)
 uncounted_at y o n false rec e = rec (omega arith)
@@ -50,7 +50,7 @@ pub uncounted_is_not_found : {A : Type 0} (p : A → Bool) (xs : List A) → tim
 uncounted_is_not_found p [] e = refl
 uncounted_is_not_found p (y ∷ ys) e = uncounted_at y (find p ys) (times p ys) (p y) (uncounted_is_not_found p ys) e
 
--- what is found by one test and is the only one to pass another is found by that too
+-- an element that is found by one test and is the only one to pass another is found by that too
 found_once_after : {A : Type 0} (y x : A) (o : Option A) (n : ℕ) (b : Bool) → 1 ≤ n → cond b 1 0 + n ≤ 1 → (n ≤ 1 → o ≡ Some x) → cond b (Some y) o ≡ Some x
 found_once_after y x o n true least most rec = absurd (omega arith)
 found_once_after y x o n false least most rec = rec (omega arith)
@@ -72,17 +72,17 @@ find_past p xs i d h e = rw (add-one, drop-cons xs i d) (rw e refl)
 pub find_here : {A : Type 0} (p : A → Bool) (xs : List A) (i : ℕ) (d : A) → i < length xs → p (get_or xs i d) ≡ true → find p (drop i xs) ≡ Some (get_or xs i d)
 find_here p xs i d h e = rw (drop-cons xs i d) (rw e refl)
 
--- what is found of a mapped option
+-- the value that is found of a mapped option
 pub option_map_some : {A B : Type 0} (f : A → B) (o : Option A) (y : B) → option_map f o ≡ Some y → (x : A) × (o ≡ Some x) × (f x ≡ y)
 option_map_some f None y e = cc
 option_map_some f (Some x) y e = (x, refl, cc)
 
--- how often something is in two lists, one after another
+-- the number of times that something is in two lists, one after another
 pub times-append : {A : Type 0} (p : A → Bool) (xs ys : List A) → times p (xs ++ ys) ≡ times p xs + times p ys
 times-append p [] ys = omega arith
 times-append p (x ∷ xs) ys = omega (arith, times-append p xs ys)
 
--- what is found passes the test
+-- an element that is found passes the test
 passes_at : {A : Type 0} (p : A → Bool) (y x : A) (o : Option A) (b : Bool) → p y ≡ b → (o ≡ Some x → p x ≡ true) → cond b (Some y) o ≡ Some x → p x ≡ true
 passes_at p y x o true t rec e = let same : y ≡ x = cc in cc
 passes_at p y x o false t rec e = rec e
@@ -91,7 +91,7 @@ pub found_passes : {A : Type 0} (p : A → Bool) (xs : List A) (x : A) → find 
 found_passes p [] x e = cc
 found_passes p (y ∷ ys) x e = passes_at p y x (find p ys) (p y) refl (found_passes p ys x) e
 
--- what is read within a list doesn't depend on what is read past it
+-- a value that is read within a list doesn't depend on the default past it
 pub read_within : {A : Type 0} (xs : List A) (i : ℕ) (d e : A) → i < length xs → get_or xs i d ≡ get_or xs i e
 read_within xs i d e h =
     let one : slice_get xs i ≡ Some (get_or xs i d) = slice_get-get_or xs i d h in

@@ -1,4 +1,4 @@
--- Exchanges that don't live any more: which the oldest of a kind are, and what is left without them.
+-- Exchanges that don't live any more: the oldest of a kind, and the table without them.
 use Rattle.std.proofs.Common.{◌-◌, not, ◌≡◌, ◌⊎◌, ◌≤◌, ◌<◌, ◌==◌, ℕ, suc, Bool, true, false, cond, List, [], ◌∷◌, map, length, get_or, Option, Some, None, inl, inr, ◌∙◌, sym, refl, ap, subst, arith}
 use Rattle.std.specs.Prelude.{nat_lt, All, AllPairs}
 use Rattle.std.specs.List.{find, filter, AllByRecursion}
@@ -21,7 +21,7 @@ use Rattle.coap_exchange.proofs.KeptLaws.{age_list_bound}
 
 -- ---- lists
 
--- a list without what is found in it is shorter
+-- a list without an element that is found in it is shorter
 shorter_at : {A : Type 0} (x e : A) (o : Option A) (n m : ℕ) (kept xs : List A) (b : Bool) → (o ≡ Some e → length kept < length xs) → length kept ≤ length xs
     → cond b (Some x) o ≡ Some e → length (cond (not b) (x ∷ kept) kept) < length (x ∷ xs)
 shorter_at x e o n m kept xs true rec most h = omega arith
@@ -44,7 +44,7 @@ pub all_kept : {A : Type 0} (p : A → Bool) (xs : List A) → AllByRecursion (�
 all_kept p [] h = refl
 all_kept p (x ∷ xs) h = rw h.0 (ap (λ l. x ∷ l) (all_kept p xs h.1))
 
--- what fails a test may as well be left out before
+-- an element that fails a test may as well be left out before
 drops_at : (p : Exchange → Bool) (e : Exchange) (kept xs : List Exchange) (b c : Bool) → p e ≡ b → (c ≡ true → b ≡ false) → filter p kept ≡ filter p xs
     → filter p (cond (not c) (e ∷ kept) kept) ≡ cond b (e ∷ filter p xs) (filter p xs)
 drops_at p e kept xs true true t w h = let wrong : true ≡ false = w refl in absurd cc
@@ -86,7 +86,7 @@ of_kind_list x kept kind s has =
     let both = among_filter (λ n. age_list_at x.entries.items n == age_list kind) s (living_slots x) (subst (λ l. is_among s l ≡ true) (kind_list_is x kept kind) has) in
     (same_kind_at (arrival_at x s).kind kind both.0, both.1)
 
--- ---- what lives
+-- ---- the exchanges that live
 
 all_live_by : (x : Inside) (now : ℕ) (kind : RequestType)
     → ((s : ℕ) → is_among s (living_slots x) ≡ true → (arrival_at x s).kind ≡ kind → lives now (arrival_at x s) ≡ true) → AllLive now kind (table_of x)

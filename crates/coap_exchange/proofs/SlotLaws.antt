@@ -1,4 +1,4 @@
--- Lists of slots: how often one is there, and how they are dealt to lists by a number.
+-- Lists of slots: the number of times that one is there, and the way in which they are dealt to lists by a number.
 use Rattle.std.proofs.Common.{◌≡◌, ◌≢◌, ◌⊎◌, ◌+◌, ◌≤◌, ◌<◌, ◌==◌, ◌||◌, ℕ, zero, suc, Bool, true, false, cond, not, List, [], ◌∷◌, ◌++◌, length, get_or, set, Option, Some, inl, inr, ◌∙◌, sym, refl, ap, subst, arith}
 use Rattle.std.specs.Prelude.{nat_lt, All}
 use Rattle.std.specs.List.{filter, find}
@@ -17,7 +17,7 @@ same_slot n = grind (arith, nat_tests)
 pub turned_test : (a b : ℕ) → (a == b) ≡ (b == a)
 turned_test a b = grind (arith, nat_tests)
 
--- ---- how often a slot is there
+-- ---- the number of times that a slot is there
 
 -- a slot that is counted is below the limit, and no slot is counted twice
 below_at : (s n : ℕ) (b : Bool) → nat_lt s n ≡ b → 1 ≤ cond b 1 0 → s < n
@@ -124,7 +124,7 @@ not_at slot xs hasnt k d h e =
 pub not_this : (slot : ℕ) (xs : List ℕ) → is_among slot xs ≡ false → (s : ℕ) → is_among s xs ≡ true → s ≢ slot
 not_this slot xs hasnt s m e = let has : is_among slot xs ≡ true = subst (λ n. is_among n xs ≡ true) e m in cc
 
--- what holds of each member, by its place and by itself
+-- a fact of each member, by its place and by itself
 pub at_member : (P : ℕ → Type 0) (xs : List ℕ) → All P xs → (s : ℕ) → is_among s xs ≡ true → P s
 at_member P [] h s m = absurd cc
 at_member P (x ∷ xs) h s m = elim (either (s == x) (is_among s xs) m) [
@@ -178,7 +178,7 @@ filter_has p s (x ∷ xs) m e = elim (either (s == x) (is_among s xs) m) [
   | inr later ↦ filter_has_at p s x (filter p xs) (p x) refl e (inr (filter_has p s xs later e))
 ]
 
--- what is found among some is what is found among all, where only those can pass
+-- a search among some finds what a search among all finds, where only those can pass
 find_at : (p : ℕ → Bool) (x : ℕ) (kept xs : List ℕ) (b c : Bool) → p x ≡ b → (b ≡ true → c ≡ true) → find p kept ≡ find p xs
     → find p (cond c (x ∷ kept) kept) ≡ cond b (Some x) (find p xs)
 find_at p x kept xs true true t w e = rw t refl

@@ -1,4 +1,4 @@
--- What the slots that a request meets are for.
+-- The uses of the slots that a request meets.
 use Rattle.std.proofs.Common.{◌≡◌, ◌∙◌, ◌==◌, ℕ, [], ◌∷◌, Some, None, sym, refl, ap, subst}
 use Rattle.std.specs.Option.{option_map, option_or}
 use Rattle.std.specs.List.{find}

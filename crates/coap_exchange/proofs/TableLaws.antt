@@ -1,4 +1,4 @@
--- What is seen of the slots of the code.
+-- The table, from the slots of the code.
 use Rattle.std.proofs.Common.{◌-◌, not, ◌≡◌, ◌≢◌, ◌≤◌, ◌<◌, ◌==◌, ◌&&◌, ℕ, Bool, true, false, cond, List, [], ◌∷◌, map, length, get_or, set, Option, Some, None, inl, inr, ◌∙◌, sym, refl, ap, subst, arith}
 use Rattle.std.specs.Option.{option_map}
 use Rattle.std.specs.Prelude.{nat_lt}
@@ -45,7 +45,7 @@ among_found slot (x ∷ xs) m = elim (eqb_tells slot x) [
       rw other (among_found slot xs (elim (either (slot == x) (is_among slot xs) m) [ inl e ↦ absurd cc | inr later ↦ later ]))
 ]
 
--- a slot that an exchange is in is living, and the exchange is what it holds
+-- a slot that an exchange is in is living, and it holds the exchange
 pub slot_lives : (x : Inside) (slot : ℕ) (e : Exchange) → exchange_in slot (table_of x) ≡ Some e
     → (is_among slot (living_slots x) ≡ true) × (exchange_at x.entries.items x.replies.items slot ≡ e)
 slot_lives x slot e h =
@@ -114,13 +114,13 @@ keeps_reply entries replies slot bytes h (x ∷ xs) =
     let rest : map (exchange_at entries (set replies slot (Some bytes))) xs ≡ map (answered slot bytes) (map (exchange_at entries replies) xs) = keeps_reply entries replies slot bytes h xs in
     cc
 
--- the reply of the exchange in a slot is what is in the slot's place
+-- the reply of the exchange in a slot is in the slot's place
 pub reply_in_place : (x : Inside) (slot : ℕ) (e : Exchange) → exchange_in slot (table_of x) ≡ Some e → e.reply ≡ get_or x.replies.items slot None
 reply_in_place x slot e h = sym (ap (λ (z : Exchange). z.reply) (slot_lives x slot e h).1)
 
--- ---- what a request duplicates
+-- ---- the exchange that a request duplicates
 
--- among exchanges that all live, what a request duplicates is what has its endpoint and message ID
+-- among exchanges that all live, a request duplicates the one that has its endpoint and message ID
 tests_agree : (entries : List Entry) (moment : ℕ) (a : Arrival) (xs : List ℕ) → a.moment ≡ moment → AllByRecursion (λ s. lives moment (arrival_of (entry_at entries s)) ≡ true) xs
     → AllByRecursion (λ s. is_duplicate_of a (arrival_of (entry_at entries s)) ≡ is_of a.from a.id (entry_at entries s)) xs
 tests_agree entries moment a [] m h = tt
@@ -136,7 +136,7 @@ duplicated_is x kept a m =
     (tests_agree x.entries.items x.moment a (living_slots x) m (recursion_from_All (λ s. lives x.moment (arrival_at x s) ≡ true) (living_slots x) kept.living)) in
     mapped ∙ ap (option_map (exchange_at x.entries.items x.replies.items)) agree
 
--- the search in a bucket finds what a search among all would
+-- the search in a bucket finds the same as a search among all
 same_endpoint : (host host2 port port2 id id2 : ℕ) → (host == host2 && port == port2 && id == id2) ≡ true → (host ≡ host2) × (port ≡ port2) × (id ≡ id2)
 same_endpoint host host2 port port2 id id2 h = elim (eqb_tells host host2) [
   | inl a ↦ elim (eqb_tells port port2) [
@@ -193,12 +193,12 @@ seen_without entries replies slot xs =
     ap (map (exchange_at entries replies)) (filter_agree (λ other. not (slot == other)) (λ other. not (other == slot)) (λ other. ap not (turned_test slot other)) xs)
     ∙ sym (filter-map (λ (e : Exchange). not (e.slot == slot)) (exchange_at entries replies) xs)
 
--- ---- what the code read
+-- ---- the values that the code read
 
 pub entry_read : (entries : List Entry) (slot : ℕ) (e : Entry) → slot < length entries → e ≡ get_or entries slot e → e ≡ entry_at entries slot
 entry_read entries slot e below h = get_or_read entries slot e below h (record { moment = 0; from = record { host = 0; port = 0 }; id = 0; kind = Confirmable })
 
--- what the search in a bucket gave is what a search among all would
+-- the search in a bucket gave the same as a search among all
 pub searched : (x : Inside) → IsKept x → (es : List Entry) (b : ℕ) (from : Endpoint) (id : ℕ) (r : Option ℕ)
     → es ≡ x.entries.items → b ≡ bucket x.capacity from id → b < x.capacity → r ≡ find (λ s. is_of from id (entry_at es s)) (get_or x.buckets.lists b [])
     → r ≡ find (λ s. is_of from id (entry_at x.entries.items s)) (living_slots x)

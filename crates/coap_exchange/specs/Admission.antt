@@ -1,22 +1,21 @@
--- Which of the requests that a server received are admitted (RFC 7252, sections 4.2, 4.5 and 4.8.2): none is admitted
--- that duplicates one which was and whose message ID may still be in use. It is said of the whole history, because RFC
--- 7252 speaks of that; a law ties the table to it.
+-- The requests that a server admits (RFC 7252, sections 4.2, 4.5 and 4.8.2): none that duplicates an admitted one whose
+-- message ID may still be in use. It is said of the whole history, because RFC 7252 speaks of that; a law ties the
+-- table to it.
 use Rattle.std.specs.Prelude.{◌==◌, ◌&&◌, ◌-◌, ℕ, nat_lt, Bool, List, [], ◌∷◌, ◌++◌, length, filter, if◌then◌else◌}
 use Rattle.std.specs.List.{list_any}
 use Rattle.coap_msg.specs.declared.endpoint.Endpoint.{Endpoint}
 use Rattle.coap_msg.specs.declared.message.RequestType.{RequestType}
 use Rattle.coap_msg.specs.declared.message.RequestType.TheVariants.{Confirmable, NonConfirmable}
 
--- a request that came: when, in milliseconds, from which endpoint, with which message ID, Confirmable or
--- Non-confirmable
+-- a request that came: its moment, in milliseconds, its endpoint, its message ID, Confirmable or Non-confirmable
 pub record Arrival : Type 0 where
   pub moment : ℕ
   pub from : Endpoint
   pub id : ℕ
   pub kind : RequestType
 
--- how long the message ID of a request may be in use, in milliseconds: EXCHANGE_LIFETIME and
--- NON_LIFETIME (section 4.8.2)
+-- the time for which the message ID of a request may be in use, in milliseconds: EXCHANGE_LIFETIME and NON_LIFETIME
+-- (section 4.8.2)
 abbrev pub lifetime : RequestType → ℕ
 lifetime Confirmable = 247000
 lifetime NonConfirmable = 145000
@@ -26,7 +25,7 @@ abbrev pub lives : ℕ → Arrival → Bool
 lives now a = nat_lt (now - a.moment) (lifetime a.kind)
 
 -- An endpoint and a message ID name one exchange (section 4.5), also where one request is Confirmable and the other
--- isn't; what is sent again for which type is the server's.
+-- isn't; the server decides what is sent again for each type.
 abbrev pub is_same_exchange : Arrival → Arrival → Bool
 is_same_exchange a b = a.from.host == b.from.host && a.from.port == b.from.port && a.id == b.id
 
@@ -34,7 +33,7 @@ is_same_exchange a b = a.from.host == b.from.host && a.from.port == b.from.port 
 abbrev pub is_duplicate_of : Arrival → Arrival → Bool
 is_duplicate_of later earlier = lives later.moment earlier && is_same_exchange later earlier
 
--- What becomes of a request.
+-- The verdict on a request.
 pub data Verdict : Type 0 where
   -- it is acted on
   admitted : Verdict
@@ -43,7 +42,7 @@ pub data Verdict : Type 0 where
   -- as many live as may
   refused : Verdict
 
--- what becomes of a request after these were admitted, where n may live
+-- the verdict on a request after these were admitted, where n may live
 abbrev pub verdict : ℕ → List Arrival → Arrival → Verdict
 verdict capacity before a =
     if list_any (is_duplicate_of a) before then duplicate

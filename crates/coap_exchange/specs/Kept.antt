@@ -1,5 +1,5 @@
--- Inside the crate: how the code keeps its exchanges. Each slot is free or living; the living ones are in one list in
--- order of admission, and each of them in one list by its kind and in one by its bucket.
+-- Inside the crate: the slots and lists in which the code keeps its exchanges. Each slot is free or living; the living
+-- ones are in one list in order of admission, and each of them in one list by its kind and in one by its bucket.
 use Rattle.std.specs.Prelude.{◌≡◌, ◌+◌, ◌≤◌, ◌<◌, ℕ, List, length, map, filter, not, ◌==◌, All, AllPairs, Option, Some, None, true, false}
 use Rattle.coap_msg.specs.declared.message.RequestType.{RequestType}
 use Rattle.slot_lists.specs.Lists.{list_at}
@@ -19,11 +19,11 @@ living_slots x = list_at 0 x.order
 abbrev pub arrival_at : Inside → ℕ → Arrival
 arrival_at x slot = arrival_of (entry_at x.entries.items slot)
 
--- what is seen
+-- the table that contracts see
 abbrev pub table_of : Inside → Table
 table_of x = record { capacity = x.capacity; moment = x.moment; exchanges = map (exchange_at x.entries.items x.replies.items) (living_slots x) }
 
--- what always holds of it
+-- the invariant
 pub record IsKept (x : Inside) : Type 0 where
   -- each slot is once among the free ones or once among the living ones
   pub slots : (s : ℕ) → times_in s (living_slots x) + times_in s (free_slots x) ≡ once_below s x.capacity

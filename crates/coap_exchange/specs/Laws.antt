@@ -5,14 +5,14 @@ use Rattle.coap_exchange.specs.Table.{Table, at_moment, Meets, StandsFor}
 use Rattle.coap_exchange.specs.declared.met.Met.{Met}
 use Rattle.coap_exchange.specs.declared.met.Met.TheVariants.{Fresh, Repeat, Full}
 
--- what a request met is this verdict
+-- a request met this verdict
 abbrev pub IsVerdict : Met → Verdict → Type 0
 IsVerdict (Fresh slot) v = v ≡ admitted
 IsVerdict (Repeat kept) v = v ≡ duplicate
 IsVerdict Full v = v ≡ refused
 
--- A table that stands for a history of requests stands afterwards for the history with the next one, which met what the
--- history says of it.
+-- A table that stands for a history of requests stands afterwards for the history with the next one, which met the
+-- verdict of the history.
 abbrev pub TablesFollowTheHistory : Type 0
 TablesFollowTheHistory =
     (t u : Table) (history : List Arrival) (a : Arrival) (met : Met)

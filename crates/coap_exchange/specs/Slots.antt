@@ -1,4 +1,4 @@
--- Inside: what slots hold.
+-- Inside: the contents of slots.
 use Rattle.std.specs.Prelude.{◌≡◌, ◌+◌, ◌≤◌, ◌<◌, ◌==◌, ◌&&◌, ℕ, Bool, List, [], ◌∷◌, length, filter, Option, None, slice_index_or, if◌then◌else◌, nat_lt}
 use Rattle.coap_msg.specs.declared.endpoint.Endpoint.{Endpoint}
 use Rattle.coap_msg.specs.declared.message.RequestType.{RequestType}
@@ -16,7 +16,7 @@ arrival_of e = record { moment = e.moment; from = e.from; id = e.id; kind = e.ki
 abbrev pub is_of : Endpoint → ℕ → Entry → Bool
 is_of from id e = from.host == e.from.host && from.port == e.from.port && id == e.id
 
--- what a slot holds that was never used
+-- the content of a slot that was never used
 abbrev pub no_entry : Entry
 no_entry = record { moment = 0; from = record { host = 0; port = 0 }; id = 0; kind = Confirmable }
 
@@ -32,12 +32,12 @@ exchange_at entries replies slot = record { arrival = arrival_of (entry_at entri
 abbrev pub once_below : ℕ → ℕ → ℕ
 once_below n limit = if nat_lt n limit then 1 else 0
 
--- how many elements of a list pass a test
+-- the number of elements of a list that pass a test
 abbrev pub times : {A : Type 0} → (A → Bool) → List A → ℕ
 times p [] = 0
 times p (x ∷ xs) = (if p x then 1 else 0) + times p xs
 
--- how often a slot is in a list
+-- the number of times that a slot is in a list
 abbrev pub times_in : ℕ → List ℕ → ℕ
 times_in slot slots = times (λ s. s == slot) slots
 
@@ -46,7 +46,7 @@ abbrev pub age_list : RequestType → ℕ
 age_list Confirmable = 1
 age_list NonConfirmable = 2
 
--- the list of the kind of what a slot holds, and its bucket
+-- the list of the kind of a slot's entry, and its bucket
 abbrev pub age_list_at : List Entry → ℕ → ℕ
 age_list_at entries slot = age_list (entry_at entries slot).kind
 

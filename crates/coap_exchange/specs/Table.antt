@@ -1,4 +1,4 @@
--- What contracts see of an `Exchanges`, and what its calls do to that (RFC 7252, sections 4.2 and 4.5).
+-- The view that contracts have of an `Exchanges`, and the effects of its calls (RFC 7252, sections 4.2 and 4.5).
 use Rattle.std.specs.Prelude.{◌≡◌, ◌<◌, ◌≤◌, ◌==◌, ℕ, List, [], ◌∷◌, ◌++◌, length, map, filter, find, Option, Some, None, option_map, if◌then◌else◌}
 use Rattle.coap_exchange.specs.Admission.{Arrival, lives, is_duplicate_of, admitted_among}
 use Rattle.coap_exchange.specs.declared.met.Met.{Met}
@@ -10,8 +10,8 @@ pub record Exchange : Type 0 where
   pub slot : ℕ
   pub reply : Option (List ℕ)
 
--- How many exchanges may live, the last moment that was handed in, and the exchanges that live then, in the order in
--- which they were admitted. Those that are over aren't seen, so that code may give them up when it likes.
+-- The number of exchanges that may live, the last moment that was handed in, and the exchanges that live then, in the
+-- order in which they were admitted. Those that are over aren't seen, so that code may give them up when it likes.
 pub record Table : Type 0 where
   pub capacity : ℕ
   pub moment : ℕ
@@ -69,13 +69,13 @@ abbrev pub Admits : Table → Arrival → Option ℕ → Table → Type 0
 Admits t a (Some slot) u = (length t.exchanges < t.capacity) × (exchange_in slot t ≡ None) × (u ≡ with_exchange a slot t)
 Admits t a None u = (t.capacity ≤ length t.exchanges) × (u ≡ t)
 
--- What a request meets in a table at its moment, and the table afterwards: it is a duplicate of one that lives; or it
--- gets a slot; or as many live as may.
+-- The verdict on a request by a table at its moment, and the table afterwards: it is a duplicate of one that lives; or
+-- it gets a slot; or as many live as may.
 abbrev pub Meets : Table → Arrival → Met → Table → Type 0
 Meets t a (Repeat kept) u = FindsDuplicated t a (Some kept) × (u ≡ t)
 Meets t a (Fresh slot) u = FindsDuplicated t a None × Admits t a (Some slot) u
 Meets t a Full u = FindsDuplicated t a None × Admits t a None u
 
--- A table stands for a history of requests: what lives in it is what lives of those that were admitted, in order.
+-- A table stands for a history of requests: the living exchanges are those of the admitted requests, in order.
 abbrev pub StandsFor : Table → List Arrival → Type 0
 StandsFor t history = map (λ e. e.arrival) t.exchanges ≡ filter (lives t.moment) (admitted_among t.capacity history)

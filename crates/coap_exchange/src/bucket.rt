@@ -1,6 +1,6 @@
-//! Which bucket an endpoint and a message ID belong to. No contract of the table rests on which it is, only on its
-//! being one function of both. It is a fixed function, with no key, because no call hands in a secret: whoever can
-//! forge sources can choose them so that all fall into one bucket, whose list is then as long as the table.
+//! The bucket of an endpoint and a message ID. The contracts of the table rest only on its being one function of both.
+//! It is a fixed function, with no key, because no call hands in a secret: whoever can forge sources can choose them so
+//! that all fall into one bucket, whose list is then as long as the table.
 
 ghost use Rattle.std.specs.Prelude.{◌≡◌, ◌<◌};
 ghost use Rattle.coap_exchange.specs.Buckets.{scattered, bucket};

@@ -1,21 +1,21 @@
-//! One exchange as the code keeps it, and how long it lives.
+//! One exchange as the code keeps it, and its lifetime.
 
 ghost use Rattle.std.specs.Prelude.{◌≡◌};
 ghost use Rattle.coap_exchange.specs.Admission.{lifetime};
 ghost use Rattle.coap_exchange.specs.Slots.{age_list};
 
-use coap_msg::{Endpoint, RequestType};
+use coap_msg::{EXCHANGE_LIFETIME, Endpoint, NON_LIFETIME, RequestType};
 
-/// A request that was admitted. What it is kept in is its slot.
+/// A request that was admitted. It is kept in its slot.
 #[derive(Clone, Copy)]
 pub struct Entry {
-    /// When it came, in milliseconds.
+    /// The moment at which it came, in milliseconds.
     pub moment: u64,
-    /// Where it came from.
+    /// The endpoint from which it came.
     pub from: Endpoint,
     /// Its message ID.
     pub id: u16,
-    /// How it was sent.
+    /// The type of its message.
     pub kind: RequestType,
 }
 
@@ -28,6 +28,7 @@ impl Entry {
     pub fn lives(&self, now: u64) -> bool
         ensures { result ≡ lives now (arrival_of self.now) }
     {
+        // Saturating, as the subtraction of the definition is.
         now.saturating_sub(self.moment) < lifetime_of(self.kind)
     }
 
@@ -39,14 +40,14 @@ impl Entry {
     }
 }
 
-/// How long the message ID of a request may be in use, in milliseconds: EXCHANGE_LIFETIME and NON_LIFETIME (RFC 7252,
-/// section 4.8.2).
+/// The time for which the message ID of a request may be in use, in milliseconds: EXCHANGE_LIFETIME and NON_LIFETIME
+/// (RFC 7252, section 4.8.2).
 pub fn lifetime_of(kind: RequestType) -> u64
     ensures { result ≡ lifetime kind }
 {
     match kind {
-        RequestType::Confirmable => 247_000,
-        RequestType::NonConfirmable => 145_000,
+        RequestType::Confirmable => EXCHANGE_LIFETIME,
+        RequestType::NonConfirmable => NON_LIFETIME,
     }
 }
 

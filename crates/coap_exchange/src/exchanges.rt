@@ -1,4 +1,4 @@
-//! The table of exchanges: which requests were admitted and live, with the replies that were kept.
+//! The table of exchanges: the requests that were admitted and live, with the replies that were kept.
 
 ghost use Rattle.std.specs.Prelude.{◌≡◌, ◌≤◌, ℕ, length, IfOk};
 ghost use Rattle.coap_msg.specs.declared.message.Type4.TheVariants.{Con, Non};
@@ -15,20 +15,20 @@ use std::marker::Model;
 /// The one list of `order`.
 const ALL: u32 = 0;
 
-/// The exchanges of a server. Contracts see how many may live, the last moment that was handed in, and the exchanges
-/// that live then with their replies (`Table` of specs/Table.antt).
+/// The exchanges of a server. Contracts see the number that may live, the last moment that was handed in, and the
+/// exchanges that live then with their replies (`Table` of specs/Table.antt).
 ///
 /// Each exchange has a slot, in which its entry and its reply have fixed places. A slot is in the list of the free ones
 /// or in that of its kind (`kinds`); while it lives also in one bucket, by endpoint and message ID, and in the list of
 /// all in order of admission, which contracts see and the lists by kind don't give where moments are equal. So a call
-/// looks into one bucket, and gives up what is over from the front of the lists by kind.
+/// looks into one bucket, and gives up the exchanges that are over from the front of the lists by kind.
 #[derive(Drop)]
 pub struct Exchanges {
     capacity: u32,
     moment: u64,
     entries: Vec<Entry>,
     replies: Vec<Option<BoundedBytes<LONGEST_MESSAGE>>>,
-    // Links are apart from the entries, in three values, because what one of them does leaves the others as they are by
+    // Links are apart from the entries, in three values, because a call of one of them leaves the others as they are by
     // their types alone.
     kinds: SlotLists,
     // As many as there are slots.
@@ -77,14 +77,15 @@ impl Exchanges {
         })
     }
 
-    /// Judges a request that came at the moment `now`, in milliseconds. Only what is `Fresh` makes a new exchange.
+    /// Judges a request that came at the moment `now`, in milliseconds. Only a request that is `Fresh` makes a new
+    /// exchange.
     pub fn meet(&mut self, from: Endpoint, id: u16, kind: Type4, now: u64) -> Met
         requires kind { (kind ≡ Con) ⊎ (kind ≡ Non) }
         requires now { self.old.moment ≤ now }
         ensures met { Meets (at_moment now self.old) (record { moment = now; from = from; id = id; kind = request_type kind }) result self.new }
         ensures moment { self.new.moment ≡ now }
 
-        // What the slots are for.
+        // The uses of the slots.
         ensures awaited { (slot : ℕ) → result ≡ Met.Fresh slot → IsAwaited slot self.new }
         ensures kept { (slot : ℕ) → result ≡ Met.Repeat (Some slot) → HasReply slot self.new }
     {
@@ -116,6 +117,7 @@ impl Exchanges {
     {
         match &self.replies[slot as usize] {
             Some(reply) => reply.as_bytes(),
+            // Not met, since the slot has a reply.
             None => &[],
         }
     }

@@ -1,8 +1,8 @@
-//! Laws of admission, as contracts of functions that do nothing.
+//! Laws of admission, as contracts of functions that do nothing, since a law is proved only as a clause.
 
 ghost use Rattle.coap_exchange.specs.Laws.{TablesFollowTheHistory, AdmittedOnce, LivingExchangesDiffer};
 
-/// What tables do is what the history of requests says.
+/// Tables judge requests as the history of requests says.
 pub fn tables_follow_the_history()
     ensures { TablesFollowTheHistory }
 {}

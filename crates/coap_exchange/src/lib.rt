@@ -1,6 +1,6 @@
 //! The exchanges of a CoAP server (RFC 7252, sections 4.2 and 4.5): a request that comes twice acts once. This crate
-//! knows endpoints, message IDs and moments, and no message: what a request asks for is decided elsewhere. It has no
-//! clock and no socket, and takes memory once, when the table is made. `Exchanges` and `Met` carry everything.
+//! knows endpoints, message IDs and moments, and no message: other crates read those. It has no clock and no socket,
+//! and takes memory once, when the table is made. `Exchanges` and `Met` carry everything.
 //!
 //! ```
 //! use coap_exchange::{Exchanges, Met};
@@ -19,8 +19,8 @@
 //! }
 //! ```
 //!
-//! Which requests of a whole history are admitted says `specs/Admission.antt`. The contract in a sentence: `meet` does
-//! with each request what that says (`Meets` of `specs/Table.antt`, and the law `tables_follow_the_history`).
+//! `specs/Admission.antt` says which requests of a whole history are admitted. The contract in a sentence: `meet`
+//! judges each request so (`Meets` of `specs/Table.antt`, and the law `tables_follow_the_history`).
 #![tactic(auto)]
 
 mod bucket;

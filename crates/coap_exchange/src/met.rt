@@ -1,9 +1,9 @@
-//! What a request meets in a table of exchanges.
+//! The verdict on a request by a table of exchanges.
 
 /// The number of the place in which an exchange and its reply are kept, as long as the exchange lives.
 pub type ExchangeSlot = u32;
 
-/// What a request meets in a table of exchanges (RFC 7252, section 4.5).
+/// The verdict on a request by a table of exchanges (RFC 7252, section 4.5).
 #[derive(Clone, Copy, Debug, PartialEq, Eq)]
 pub enum Met {
     /// No exchange that lives: it is admitted, and acted on. Its reply may be kept in this slot as long as it lives.

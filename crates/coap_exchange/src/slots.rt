@@ -1,4 +1,4 @@
-//! What slots hold and which lists they are in, as a table begins, and the search in a bucket.
+//! The contents and the lists of slots, as a table begins, and the search in a bucket.
 
 ghost use Rattle.std.specs.Prelude.{◌≡◌, ◌≤◌, ◌<◌, ◌+◌, [], ℕ, IfOk, find, length, replicate};
 ghost use Rattle.slot_lists.specs.Lists.{list_at, Lists};
@@ -10,7 +10,7 @@ use coap_msg::{BoundedBytes, Endpoint, LONGEST_MESSAGE, RequestType};
 use slot_lists::SlotLists;
 use std::alloc::Global;
 
-/// How many lists by kind there are: that of the free slots, and one for each kind of request.
+/// The number of lists by kind: that of the free slots, and one for each kind of request.
 const KINDS: u32 = 3;
 
 /// The list, among those by kind, of the free slots.
@@ -70,6 +70,7 @@ pub fn slot_of(
     requires entries { buckets.now.capacity ≤ length entries.now }
     ensures { result ≡ find (λ slot. is_of from id (entry_at entries.now slot)) (list_at bucket buckets.now) }
 {
+    // A loop and not an iterator, since each slot of a list names the one after it.
     let mut current = buckets.first(bucket);
     while let Some(slot) = current {
         if entries[slot as usize].is_of(from, id) {

@@ -60,7 +60,7 @@ blocks_are_read_again b is =
     ∙ ap block_in (number_is_read (block_number b) (let low = block_is_short b is in omega arith))
     ∙ block_is_read b is
 
--- what is read is within the bounds
+-- a block that is read is within the bounds
 block_at : (n : ℕ) (b : Block) (reserved : Bool) → (n % 8 == 7) ≡ reserved → n < 2 ^ 24
     → (if reserved then None else Some (record { number = n / 16; more = n / 8 % 2 == 1; szx = n % 8 })) ≡ Some b → IsBlock b
 block_at n b true e h is = cc

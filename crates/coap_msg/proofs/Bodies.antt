@@ -82,7 +82,7 @@ pub record IsRest (last : ℕ) (rest tail : List ℕ) : Type 0 where
   pub order : AreInOrder last more
   pub rest_is : rest ≡ options_spelling last more ++ tail
 
--- what comes after the options that were read is the rest of any other way to read them
+-- the bytes after the options that were read are the rest of any other way to read them
 pub same_rest : (last : ℕ) (done others : List CoapOption) (rest tail : List ℕ) → AreInOrder last done →
     AreInOrder last others → BeginsNoOption tail →
     options_spelling last others ++ tail ≡ options_spelling last done ++ rest →

@@ -45,14 +45,14 @@ renamed : (n : ℕ) (bytes : List ℕ) (x y : ℕ × List ℕ) → TakesNumber n
 renamed n bytes x y takes same =
     subst (λ (z : ℕ × List ℕ). TakesNumber n z.0 bytes z.1) (same_Some x y same) takes
 
--- what `one_byte` reads
+-- a number that `one_byte` reads is spelled there
 one_byte_takes : (bytes : List ℕ) (x : ℕ × List ℕ) → IsBytes bytes → one_byte bytes ≡ Some x →
     TakesNumber 13 x.0 bytes x.1
 one_byte_takes [] x are_bytes read = absurd cc
 one_byte_takes (b ∷ bytes) x are_bytes read =
     renamed 13 (b ∷ bytes) (b + 13, bytes) x (takes_one b bytes (are_bytes 0)) read
 
--- what `two_bytes` reads
+-- a number that `two_bytes` reads is spelled there
 two_bytes_takes : (bytes : List ℕ) (x : ℕ × List ℕ) → IsBytes bytes → two_bytes bytes ≡ Some x →
     TakesNumber 14 x.0 bytes x.1
 two_bytes_takes [] x are_bytes read = absurd cc
@@ -60,11 +60,11 @@ two_bytes_takes (high ∷ []) x are_bytes read = absurd cc
 two_bytes_takes (high ∷ low ∷ bytes) x are_bytes read =
     renamed 14 (high ∷ low ∷ bytes) (256 * high + low + 269, bytes) x (takes_two high low bytes (are_bytes 0) (are_bytes 1)) read
 
--- what is nothing is not something
+-- `None` is not `Some`
 pub none_read : {A : Type 0} (o : Option A) (x : A) → o ≡ None → o ≡ Some x → ⊥
 none_read o x none some = absurd cc
 
--- what `number_at` reads
+-- a number that `number_at` reads is spelled there
 pub number_takes : (n : ℕ) (bytes : List ℕ) (x : ℕ × List ℕ) → IsBytes bytes → number_at n bytes ≡ Some x →
     TakesNumber n x.0 bytes x.1
 unfolding number_at
@@ -81,7 +81,7 @@ number_takes n bytes x are_bytes read =
       ]
     ]
 
--- what is spelled is read again
+-- a number that is spelled is read again
 pub number_at-extended : (number : ℕ) (rest : List ℕ) → number ≤ largest_number →
     number_at (nibble number) (extended number ++ rest) ≡ Some (number, rest)
 unfolding number_at

@@ -14,7 +14,7 @@ use Rattle.coap_msg.proofs.Bodies.{Progress, same_rest}
 use Rattle.coap_msg.proofs.Messages.{header_of, body_of, bytes_after_header}
 use Rattle.coap_msg.proofs.WholeOptions.{nothing_is_whole, whole_not_reserved, whole_from_option, one_delta}
 
--- no option begins where something is wrong
+-- no option begins where there is a fault
 pub faulty_begins_no_option : (f : MsgFault) (last : ℕ) (bytes : List ℕ) (o : CoapOption) (tail : List ℕ) →
     HasFaultHere f last bytes → MayFollow last o → bytes ≡ option_spelling last o ++ tail → ⊥
 faulty_begins_no_option f last bytes o tail (of_nibble b after f_is bytes_are differs reserved) follows spelled =
@@ -99,7 +99,7 @@ no_fault_of_message f m bytes spells (in_body h rest of_header goes_on at_fault)
     let after = body_of m h bytes rest token body is spells split count in
     no_body_fault f m.options m.payload body after.1 at_fault
 
--- what is wrong after some options in order is wrong in the body
+-- a fault after some options in order is a fault of the body
 pub body_fault_at : (f : MsgFault) (body : List ℕ) (last first : ℕ) (rest after : List ℕ) → Progress body last rest →
     rest ≡ first ∷ after → HasFaultHere f last (first ∷ after) → HasBodyFault f body
 body_fault_at f body last first rest after p rest_is here = record {

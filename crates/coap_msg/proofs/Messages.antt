@@ -39,7 +39,7 @@ same_type Rst Rst same = refl
 abbrev pub bytes_after_header : CoapMessage → List ℕ
 bytes_after_header m = m.token ++ (options_spelling 0 m.options ++ payload_spelling m.payload)
 
--- a header says of a message what the message is
+-- a header has the fields of its message
 pub record IsHeaderOf (m : CoapMessage) (h : Header) (rest : List ℕ) : Type 0 where
   pub version : h.version ≡ 1
   pub kind : type_bits h.kind ≡ type_bits m.kind

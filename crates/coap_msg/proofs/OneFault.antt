@@ -21,7 +21,7 @@ other_than_marker b after bytes bytes_are marker = ap (λ (xs : List ℕ). get_o
 same_first : (a b : ℕ) (x y bytes : List ℕ) → bytes ≡ a ∷ x → bytes ≡ b ∷ y → a ≡ b
 same_first a b x y bytes of_a of_b = ap (λ (xs : List ℕ). get_or xs 0 0) (sym of_a ∙ of_b)
 
--- what is wrong right here is one thing
+-- there is one fault right here
 one_fault_here : (f g : MsgFault) (last : ℕ) (bytes : List ℕ) → HasFaultHere f last bytes → HasFaultHere g last bytes → f ≡ g
 one_fault_here f g last bytes (of_nibble b x f_is bytes_are differs reserved) (of_nibble c y g_is same other also) = f_is ∙ sym g_is
 one_fault_here f g last bytes (of_nibble b x f_is bytes_are differs reserved) (of_cut c y g_is same fine cut) =
@@ -52,7 +52,7 @@ one_fault_here f g last bytes (of_payload f_is marker) (of_number whole g_is lar
     absurd (whole_not_reserved 255 [] (subst BeginsWhole marker whole) (inl refl))
 one_fault_here f g last bytes (of_payload f_is marker) (of_payload g_is same) = f_is ∙ sym g_is
 
--- after options in order, what is wrong is wrong at one place
+-- after options in order, a fault is at one place
 one_fault_after : (f g : MsgFault) (last : ℕ) (os ps : List CoapOption) (x y : List ℕ) → AreInOrder last os → AreInOrder last ps →
     HasFaultHere f (last_number last os) x → HasFaultHere g (last_number last ps) y →
     options_spelling last os ++ x ≡ options_spelling last ps ++ y → f ≡ g

@@ -1,4 +1,4 @@
--- One option, read and written, and what `options_of` reads.
+-- One option, read and written, and the options that `options_of` reads.
 use Rattle.std.proofs.Common.{◌≡◌, ℕ, zero, suc, ◌+◌, ◌-◌, ◌*◌, ◌/◌, ◌%◌, ◌^◌, ◌<◌, ◌≤◌, true, false, ltb, List, [], ◌∷◌, ◌++◌, length, take, drop, Option, Some, None, refl, sym, ap, subst, ◌∙◌, arith, inl, inr, append_assoc, length-append, length-drop}
 use Rattle.std.specs.Prelude.{option_and_then}
 use Rattle.std.specs.Option.{option_map_or}
@@ -13,7 +13,7 @@ use Rattle.coap_msg.proofs.ExtendedNumbers.{IsBytes, TakesNumber, number_takes, 
 abbrev Read : Type 0
 Read = CoapOption × List ℕ
 
--- what a reading function answers with where it finds an option
+-- the answer of a reading function where it finds an option
 abbrev pub some_read : Read → Option Read
 some_read read = Some read
 
@@ -63,7 +63,7 @@ takes_parts last b delta size bytes middle tail of_delta of_size within number =
       bytes_are = spelled_parts last b delta size bytes middle tail of_delta of_size within;
     }
 
--- what `value_at` reads
+-- an option that `value_at` reads is spelled there
 value_takes : (number size : ℕ) (bytes : List ℕ) (x : Read) → value_at number size bytes ≡ Some x →
     (size ≤ length bytes) × (number < 2 ^ 16) × (some_read ((number, take size bytes), drop size bytes) ≡ Some x)
 value_takes number size bytes x read =
@@ -75,15 +75,15 @@ value_takes number size bytes x read =
       ]
     ]
 
--- what `option_at` reads after a first byte: two numbers, and a value
+-- the reading of `option_at` after a first byte and two numbers
 abbrev after_size : ℕ → ℕ × List ℕ → ℕ × List ℕ → Option Read
 after_size last delta size = value_at (last + delta.0) size.0 size.1
 
--- what `option_at` reads after a first byte and a delta
+-- the reading of `option_at` after a first byte and a delta
 abbrev after_delta : ℕ → ℕ → ℕ × List ℕ → Option Read
 after_delta last b delta = option_and_then (after_size last delta) (number_at (b % 16) delta.1)
 
--- what `option_at` reads
+-- an option that `option_at` reads is spelled there
 pub option_takes : (last : ℕ) (bytes : List ℕ) (x : Read) → IsBytes bytes → option_at last bytes ≡ Some x →
     TakesOption last x.0 bytes x.1
 unfolding option_at
@@ -161,18 +161,18 @@ length_within last (o ∷ os) =
     let begins = option_begins last o in
     omega (arith, length_within o.0 os, length-append (option_spelling last o) (options_spelling o.0 os), ap length begins.2)
 
--- options in order are what `options_of` reads from their spelling
+-- `options_of` reads options in order from their spelling
 pub options_of-spelling : (os : List CoapOption) → AreInOrder 0 os → options_of (options_spelling 0 os) ≡ os
 options_of-spelling os order = options_at-spelling (length (options_spelling 0 os)) 0 os order (length_within 0 os)
 
--- how many bytes the spelling of an option has
+-- the number of bytes of the spelling of an option
 pub length-option_spelling : (last : ℕ) (o : CoapOption) →
     length (option_spelling last o) ≡ 1 + length (extended (o.0 - last)) + length (extended (length o.1)) + length o.1
 unfolding option_spelling
 length-option_spelling last o =
     omega (arith, length-append (extended (o.0 - last) ++ extended (length o.1)) o.1, length-append (extended (o.0 - last)) (extended (length o.1)))
 
--- the spelling of an option after some bytes, from what each step of its writing put after the step before
+-- the spelling of an option after some bytes, from the bytes that each step of its writing put after the step before
 pub written_pieces : (last number first : ℕ) (value before a b c d : List ℕ) →
     first ≡ 16 * nibble (number - last) + nibble (length value) → a ≡ before ++ first ∷ [] →
     b ≡ a ++ extended (number - last) → c ≡ b ++ extended (length value) → d ≡ c ++ value →

@@ -30,7 +30,7 @@ pub last_number-push : (last : ℕ) (os : List CoapOption) (o : CoapOption) →
 last_number-push last [] o = refl
 last_number-push last (x ∷ os) o = last_number-push x.0 os o
 
--- what one more option makes of the bytes that were written
+-- the bytes that were written, with one more option
 pub record IsPushed (os : List CoapOption) (o : CoapOption) (new : List ℕ) : Type 0 where
   pub list : options_of new ≡ os ++ o ∷ []
   pub written : AreWritten o.0 new

@@ -73,7 +73,7 @@ no_room_at_segment number start old segments i segment within there room so_far 
     (subst (λ (s : List ℕ). start.room < length (options_spelling 0 (old.list ++ (number, s) ∷ []))) (sym (get_or_from_slice_get segments i segment [] there))
     (subst (λ (n : ℕ). n < length (options_spelling 0 (old.list ++ (number, segment) ∷ []))) room h))
 
--- where a part has no room after another one was written, both have none with what follows them
+-- where a part has no room after another one was written, both have none with the options after them
 pub no_room_after_part : (old new : WrittenOptions) (os ps qs : List CoapOption) → new ≡ record old { list = old.list ++ os }
     → new.room < length (options_spelling 0 (new.list ++ ps)) → old.room < length (options_spelling 0 (old.list ++ (os ++ (ps ++ qs))))
 no_room_after_part old new os ps qs is h =

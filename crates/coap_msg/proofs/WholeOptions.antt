@@ -14,11 +14,11 @@ use Rattle.coap_msg.proofs.OneOption.{IsBytes-after, regrouped, spelled_parts, o
 abbrev Taken : Type 0
 Taken = ℕ × List ℕ
 
--- what a reading function answers with where it finds a number
+-- the answer of a reading function where it finds a number
 abbrev some_taken : ℕ → List ℕ → Option Taken
 some_taken number rest = Some (number, rest)
 
--- the bytes of an option of this delta and this value, and of what comes after it
+-- the bytes of an option of this delta and this value, and the bytes after it
 abbrev pieces : ℕ → List ℕ → List ℕ → List ℕ
 pieces delta value after =
     (16 * nibble delta + nibble (length value)) ∷ (((extended delta ++ extended (length value)) ++ value) ++ after)

@@ -12,7 +12,7 @@ pub record IsBlock (b : Block) : Type 0 where
 abbrev pub block_size : Block → ℕ
 block_size b = 2 ^ (b.szx + 4)
 
--- where a block begins in its body, in bytes
+-- the place of a block's first byte in its body
 abbrev pub block_start : Block → ℕ
 block_start b = b.number * block_size b
 
@@ -32,10 +32,10 @@ block_in n = if n % 8 == 7 then None else Some (record { number = n / 16; more =
 abbrev pub block_of : List ℕ → Option Block
 block_of value = if nat_lt 3 (length value) then None else block_in (number_of value)
 
--- what is written is read again, and is a block
+-- a block that is written is read again
 abbrev pub BlocksAreReadAgain : Type 0
 BlocksAreReadAgain = (b : Block) → IsBlock b → block_of (block_bytes b) ≡ Some b
 
--- what is read is a block that may be written
+-- each block that is read may be written
 abbrev pub ReadBlocksAreBlocks : Type 0
 ReadBlocksAreBlocks = (value : List ℕ) (b : Block) → length value ≤ 3 → number_of value < 2 ^ 24 → block_of value ≡ Some b → IsBlock b

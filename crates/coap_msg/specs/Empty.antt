@@ -1,5 +1,4 @@
--- Empty messages (RFC 7252, sections 4.1 and 4.2): acknowledgements and Resets, and which messages
--- are replied to with one.
+-- Empty messages (RFC 7252, sections 4.1 and 4.2): acknowledgements and Resets, and the messages to which they reply.
 use Rattle.std.specs.Prelude.{◌+◌, ◌*◌, ◌/◌, ◌==◌, ℕ, Bool, List, [], ◌∷◌, Option, Some, None, if◌then◌else◌}
 use Rattle.coap_msg.specs.declared.message.Type4.{Type4}
 use Rattle.coap_msg.specs.declared.message.Type4.TheVariants.{Con, Non, Ack, Rst}

@@ -1,6 +1,6 @@
--- Why bytes are no message (RFC 7252, section 3): what is wrong with them, where all that is judged before it is right.
--- At most one fault holds of given bytes, and none of the bytes of a message (`one_fault`, `no_fault`). So the faults
--- are said without a function that would be the reader again.
+-- The faults of bytes that are no message (RFC 7252, section 3). Of a fault all that is judged before it is right. At
+-- most one fault holds of given bytes, and none of the bytes of a message (`one_fault`, `no_fault`). So the faults are
+-- said without a function that would be the reader again.
 use Rattle.std.specs.Prelude.{◌≡◌, ◌≢◌, ℕ, ◌+◌, ◌/◌, ◌%◌, ◌^◌, ◌<◌, ◌≤◌, ◌⊎◌, List, [], ◌∷◌, ◌++◌, length, drop}
 use Rattle.coap_msg.specs.declared.constants.TheConstants.{LONGEST_TOKEN}
 use Rattle.coap_msg.specs.declared.header.Header.{Header}
@@ -25,7 +25,7 @@ pub record MayGoOn (h : Header) (rest : List ℕ) : Type 0 where
   pub empty : h.code ≡ 0 → length rest ≡ 0
   pub class : IsClass (h.code / 32)
 
--- What is wrong with a header and the bytes after it. (The class of the code 0.00 is not reserved.)
+-- The fault of a header and the bytes after it. (The class of the code 0.00 is not reserved.)
 pub data HasHeaderFault (f : MsgFault) (h : Header) (rest : List ℕ) : Type 0 where
   of_version : f ≡ fault.Version → h.version ≢ 1 → HasHeaderFault f h rest
   of_token : f ≡ fault.TokenLength → h.version ≡ 1 → (LONGEST_TOKEN < h.token_length) ⊎ (length rest < h.token_length) → HasHeaderFault f h rest
@@ -47,9 +47,9 @@ pub record BeginsWhole (bytes : List ℕ) : Type 0 where
   pub value_bound : length value ≤ largest_number
   pub bytes_are : bytes ≡ option_spelling 0 (delta, value) ++ after
 
--- What is wrong right here, after an option of the number last.
+-- The fault right here, after an option of the number last.
 pub data HasFaultHere (f : MsgFault) (last : ℕ) (bytes : List ℕ) : Type 0 where
-  -- what isn't the payload marker has a reserved nibble
+  -- a byte that isn't the payload marker has a reserved nibble
   of_nibble : (b : ℕ) (after : List ℕ) → f ≡ fault.Nibble → bytes ≡ b ∷ after → b ≢ 255 → HasReservedNibble b → HasFaultHere f last bytes
   -- an option passes the end
   of_cut : (b : ℕ) (after : List ℕ) → f ≡ fault.OptionCut → bytes ≡ b ∷ after → ¬ (HasReservedNibble b) → ¬ (BeginsWhole bytes) → HasFaultHere f last bytes
@@ -68,11 +68,11 @@ pub record HasBodyFault (f : MsgFault) (body : List ℕ) : Type 0 where
 
 -- ---- the whole
 
--- What is wrong with bytes, the first in the order of `MsgFault`.
+-- The fault of bytes, the first in the order of `MsgFault`.
 pub data HasMsgFault (f : MsgFault) (bytes : List ℕ) : Type 0 where
   -- there are too few for a header
   is_short : f ≡ fault.Short → length bytes < 4 → HasMsgFault f bytes
   -- the header is at fault
   in_header : (h : Header) (rest : List ℕ) → SpellsHeader h bytes rest → HasHeaderFault f h rest → HasMsgFault f bytes
-  -- the header and the token are right, and what follows them is at fault
+  -- the header and the token are right, and the bytes after them are at fault
   in_body : (h : Header) (rest : List ℕ) → SpellsHeader h bytes rest → MayGoOn h rest → HasBodyFault f (drop h.token_length rest) → HasMsgFault f bytes

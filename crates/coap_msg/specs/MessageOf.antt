@@ -1,4 +1,4 @@
--- What contracts see of a message that `decode` read (RFC 7252, section 3).
+-- The view that contracts have of a message that `decode` read (RFC 7252, section 3).
 use Rattle.coap_msg.specs.declared.message.Message.{Message}
 use Rattle.coap_msg.specs.Grammar.{CoapMessage}
 

@@ -1,4 +1,4 @@
--- What an iterator over options has left (RFC 7252, section 3.1).
+-- The options that an iterator has left (RFC 7252, section 3.1).
 use Rattle.std.specs.Prelude.{ℕ, List, length}
 use Rattle.std.specs.Borrow.{Bor}
 use Rattle.coap_msg.specs.declared.options.OptionsIter.{OptionsIter}

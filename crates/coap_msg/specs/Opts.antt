@@ -3,7 +3,7 @@ use Rattle.std.specs.Prelude.{◌≡◌, ◌<◌, ℕ, List, [], ◌∷◌, ◌+
 use Rattle.coap_msg.specs.declared.opts.NoRoom.{NoRoom}
 use Rattle.coap_msg.specs.Grammar.{CoapOption, options_spelling}
 
--- the options so far, and how many bytes there is room for
+-- the options so far, and the number of bytes of the room
 pub record WrittenOptions : Type 0 where
   pub list : List CoapOption
   pub room : ℕ

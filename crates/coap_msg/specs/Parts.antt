@@ -1,4 +1,4 @@
--- Inside: what comes after the token, which `decode` takes apart by itself.
+-- Inside: the bytes after the token, which `decode` takes apart by itself.
 use Rattle.std.specs.Prelude.{◌≡◌, ℕ, List, ◌++◌}
 use Rattle.coap_msg.specs.Grammar.{CoapOption, options_spelling, payload_spelling, AreInOrder}
 

@@ -1,4 +1,4 @@
--- What contracts see of a message that `encode` writes (RFC 7252, section 3).
+-- The view that contracts have of a message that `encode` writes (RFC 7252, section 3).
 use Rattle.coap_msg.specs.declared.encoding.Plain.{Plain}
 use Rattle.coap_msg.specs.Grammar.{CoapMessage}
 

@@ -1,4 +1,4 @@
--- How a request is sent (RFC 7252, sections 4.2 and 4.3).
+-- The type of the message of a request (RFC 7252, sections 4.2 and 4.3).
 use Rattle.coap_msg.specs.declared.message.Type4.{Type4}
 use Rattle.coap_msg.specs.declared.message.Type4.TheVariants.{Con}
 use Rattle.coap_msg.specs.declared.message.RequestType.{RequestType}

@@ -4,7 +4,20 @@ ghost use Rattle.std.specs.Prelude.{◌≡◌, ◌≤◌, length};
 ghost use Rattle.coap_msg.specs.Blocks.{IsBlock, block_bytes, block_in as block_in_number, block_of};
 ghost use Rattle.coap_msg.specs.Written.{IsWritten};
 
+use crate::constants::LONGEST_BLOCK;
 use crate::numbers::{number_of, write_number};
+
+/// The size of the smallest block, that of the exponent 0, in bytes.
+const SMALLEST_SIZE: usize = 16;
+
+/// The exponent that is reserved.
+const RESERVED_SZX: u8 = 7;
+
+/// The bit M in the number of an option's value; SZX is below it.
+const MORE: u32 = 8;
+
+/// The lowest bit of NUM there, above M.
+const LOWEST_NUMBER: u32 = 16;
 
 /// One block of a body.
 #[derive(Clone, Copy, Debug, PartialEq, Eq)]
@@ -28,10 +41,10 @@ impl Block {
         ensures least { 16 ≤ result }
         ensures most { result ≤ 1024 }
     {
-        16 << self.szx
+        SMALLEST_SIZE << self.szx
     }
 
-    /// Where the block begins in its body, in bytes.
+    /// The place of the block's first byte in its body.
     pub fn start(&self) -> usize
         requires { IsBlock self.now }
         ensures start { result ≡ block_start self.now }
@@ -46,7 +59,7 @@ impl Block {
 pub fn read_block(value: &[u8]) -> Option<Block>
     ensures { result ≡ block_of value.now }
 {
-    if value.len() > 3 {
+    if value.len() > LONGEST_BLOCK {
         return None;
     }
     block_in(number_of(value))
@@ -56,23 +69,26 @@ pub fn read_block(value: &[u8]) -> Option<Block>
 fn block_in(number: u32) -> Option<Block>
     ensures { result ≡ block_in_number number }
 {
-    let szx = (number % 8) as u8;
-    if szx == 7 {
+    let szx = (number % MORE) as u8;
+    if szx == RESERVED_SZX {
         return None;
     }
     Some(Block {
-        number: number / 16,
-        more: number / 8 % 2 == 1,
+        number: number / LOWEST_NUMBER,
+        more: number / MORE % 2 == 1,
         szx,
     })
 }
 
-/// Writes the value of an option for a block to the beginning of `out`, with no leading zero byte, and returns how many
-/// bytes it has.
+/// Writes the value of an option for a block to the beginning of `out`, with no leading zero byte, and returns the
+/// number of its bytes. The room is the caller's, since no function of this crate takes memory.
 pub fn write_block(block: Block, out: &mut [u8; 3]) -> usize
     requires { IsBlock block }
     ensures { IsWritten (block_bytes block) result out.old out.new }
 {
-    let more = if block.more { 8 } else { 0 };
-    write_number(16 * block.number + more + u32::from(block.szx), out)
+    let more = if block.more { MORE } else { 0 };
+    write_number(
+        LOWEST_NUMBER * block.number + more + u32::from(block.szx),
+        out,
+    )
 }

@@ -1,4 +1,4 @@
-//! Reading a message: the one that bytes spell, or what is wrong with them.
+//! Reading a message: the one that bytes spell, or their fault.
 
 ghost use Rattle.std.specs.Prelude.{◌≡◌, ◌↔◌, ◌∷◌, ◌≢◌, ℕ, List, None, IfOk, IfErr, IsOkAnd, OnOk, IsTrue};
 ghost use Rattle.coap_msg.specs.Grammar.{CoapOption, CoapMessage, IsClass, Spells};
@@ -7,7 +7,7 @@ ghost use Rattle.coap_msg.specs.Options.{option_at};
 ghost use Rattle.coap_msg.specs.Parts.{SpellsBody};
 ghost use Rattle.coap_msg.specs.MessageOf.{message_of};
 
-use crate::constants::{EMPTY, LONGEST_TOKEN};
+use crate::constants::{CLIENT_ERROR, DETAILS, EMPTY, LONGEST_TOKEN, SERVER_ERROR, SUCCESS};
 use crate::header::{Header, take_header};
 use crate::message::PAYLOAD_MARKER;
 use crate::options::{take_number, take_option};
@@ -16,8 +16,8 @@ use crate::{Message, MsgFault, Options};
 /// The nibble that no option has (RFC 7252, section 3.1).
 const RESERVED: u8 = 15;
 
-/// The message that the bytes spell, of every type and code and with any options: which messages are acted on is asked
-/// above, because that grows and the grammar doesn't. It copies nothing.
+/// The message that the bytes spell, of every type and code and with any options. A crate above decides which messages
+/// are acted on, because that grows and the grammar doesn't. It copies nothing.
 pub fn decode(bytes: &[u8]) -> Result<Message<'_>, MsgFault>
     ensures ok { IfOk result (λ m. Spells (message_of m) bytes.now) }
     ensures complete { (m : CoapMessage) → Spells m bytes.now → IsOkAnd result (λ n. message_of n ≡ m) }
@@ -43,7 +43,7 @@ pub fn decode(bytes: &[u8]) -> Result<Message<'_>, MsgFault>
     })
 }
 
-/// Finds what is wrong with a header and the number of bytes after it.
+/// Judges a header and the number of bytes after it, in the order of `MsgFault`, since the first fault is given.
 fn check_header(header: &Header, rest: &[u8]) -> Result<(), MsgFault>
     ensures ok { OnOk result (MayGoOn header.now rest.now) }
     ensures fault { IfErr result (λ e. HasHeaderFault e header.now rest.now) }
@@ -58,7 +58,10 @@ fn check_header(header: &Header, rest: &[u8]) -> Result<(), MsgFault>
     if header.code == EMPTY && !rest.is_empty() {
         return Err(MsgFault::EmptyCode);
     }
-    if !matches!(header.code / 32, 0 | 2 | 4 | 5) {
+    if !matches!(
+        header.code / DETAILS,
+        0 | SUCCESS | CLIENT_ERROR | SERVER_ERROR
+    ) {
         return Err(MsgFault::Class);
     }
     Ok(())
@@ -73,6 +76,7 @@ fn split_body(body: &[u8]) -> Result<(Options<'_>, &[u8]), MsgFault>
 {
     let mut rest = body;
     let mut last = 0;
+    // A loop over bytes and not over `Options`, since only its end says where the options end.
     'options: while let Some((first, after)) = rest.split_first() {
         if *first == PAYLOAD_MARKER {
             if after.is_empty() {
@@ -94,7 +98,7 @@ fn split_body(body: &[u8]) -> Result<(Options<'_>, &[u8]), MsgFault>
     Ok((Options { bytes: body }, rest))
 }
 
-/// What is wrong with the bytes after an option of the number `last`, which begin with no option that may be there.
+/// The fault of the bytes after an option of the number `last`, which begin with no option that may be there.
 fn option_fault(last: u16, first: u8, after: &[u8]) -> MsgFault
     requires none { option_at last (first ∷ after.now) ≡ None }
     requires marker { first ≢ 255 }

@@ -7,8 +7,11 @@ ghost use Rattle.coap_msg.specs.Written.{IsWritten, IsReplied};
 use crate::constants::{EMPTY, LONGEST_MESSAGE};
 use crate::{Opts, Plain, Type4, encode};
 
-/// Writes the empty message that a message of this type and ID is replied to with, which is taken or not, and returns
-/// how many bytes it has, if there is one.
+/// The version 1 and the type Confirmable, the upper four bits of a message (RFC 7252, section 3).
+const CONFIRMABLE: u8 = 4;
+
+/// Writes the empty reply to a message of this type and ID, which is taken or not, and returns the number of its bytes,
+/// if there is one. The room is the caller's, since no function of this crate takes memory.
 pub fn put_empty_reply(
     kind: Type4,
     id: u16,
@@ -26,14 +29,14 @@ pub fn put_empty_reply(
     }
 }
 
-/// Writes the Reset that bytes which spell no message are replied to with, and returns how many bytes
-/// it has, if there is one.
+/// Writes the Reset with which bytes that spell no message are rejected, and returns the number of its bytes, if there
+/// is one.
 pub fn put_rejection(bytes: &[u8], out: &mut [u8; LONGEST_MESSAGE]) -> Option<usize>
     ensures { IsReplied (rejection_of bytes.now) result out.old out.new }
 {
     match bytes {
         [first, _, high, low, ..] => {
-            if *first / 16 == 4 {
+            if *first / 16 == CONFIRMABLE {
                 let id = 256 * u16::from(*high) + u16::from(*low);
                 Some(put_empty(Type4::Rst, id, out))
             } else {
@@ -44,10 +47,11 @@ pub fn put_rejection(bytes: &[u8], out: &mut [u8; LONGEST_MESSAGE]) -> Option<us
     }
 }
 
-/// Writes an empty message, and returns how many bytes it has.
+/// Writes an empty message, and returns the number of its bytes.
 fn put_empty(kind: Type4, id: u16, out: &mut [u8; LONGEST_MESSAGE]) -> usize
     ensures { IsWritten (spelling (empty_message kind id)) result out.old out.new }
 {
+    // No bytes of room, since there are no options.
     let mut none = [];
     let options = Opts::on(&mut none);
     let message = Plain {
@@ -58,5 +62,6 @@ fn put_empty(kind: Type4, id: u16, out: &mut [u8; LONGEST_MESSAGE]) -> usize
         options: &options,
         payload: &[],
     };
+    // There is room, since an empty message has four bytes.
     encode(&message, out).unwrap()
 }

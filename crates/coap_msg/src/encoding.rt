@@ -10,6 +10,9 @@ use crate::message::PAYLOAD_MARKER;
 use crate::{Code, NoRoom, Opts, Type4};
 use servient_base::put_bytes;
 
+/// The number of bytes of a header (RFC 7252, section 3).
+const HEADER_LENGTH: u128 = 4;
+
 /// A message to write.
 #[derive(Drop)]
 pub struct Plain<'a> {
@@ -27,7 +30,7 @@ pub struct Plain<'a> {
     pub payload: &'a [u8],
 }
 
-/// Writes a message to the beginning of `out`, and returns how many bytes it has.
+/// Writes a message to the beginning of `out`, and returns the number of its bytes.
 pub fn encode(message: &Plain<'_>, out: &mut [u8]) -> Result<usize, NoRoom>
     requires token { length message.now.token.now ≤ LONGEST_TOKEN }
     requires class { IsClass (message.now.code / 32) }
@@ -44,6 +47,7 @@ pub fn encode(message: &Plain<'_>, out: &mut [u8]) -> Result<usize, NoRoom>
     ensures unchanged { OnErr result (out.new ≡ out.old) }
     ensures no_room { OnErr result (length out.old < length (spelling (plain_message message.now))) }
 {
+    // The whole length is judged before a byte is written, so that a refusal leaves the room as it was.
     if (out.len() as u128) < spelled_length(message) {
         return Err(NoRoom);
     }
@@ -53,11 +57,12 @@ pub fn encode(message: &Plain<'_>, out: &mut [u8]) -> Result<usize, NoRoom>
     Ok(put_payload(out, at, message.payload))
 }
 
-/// How many bytes a message has, in a type in which no sum of lengths overflows.
+/// The number of bytes of a message, in `u128`, so that no sum of lengths overflows.
 fn spelled_length(message: &Plain<'_>) -> u128
     ensures { result ≡ length (spelling (plain_message message.now)) }
 {
-    4 + message.token.len() as u128
+    HEADER_LENGTH
+        + message.token.len() as u128
         + message.options.as_bytes().len() as u128
         + if message.payload.is_empty() {
             0

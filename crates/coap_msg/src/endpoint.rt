@@ -1,4 +1,4 @@
-//! Where datagrams come from and go to: a host and a port.
+//! The endpoints of datagrams: a host and a port each.
 
 ghost use Rattle.std.specs.Prelude.{◌≡◌};
 ghost use Rattle.coap_msg.specs.Endpoints.{is_same_endpoint};

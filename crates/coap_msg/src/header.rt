@@ -12,7 +12,7 @@ pub struct Header {
     pub version: u8,
     /// The type of the message.
     pub kind: Type4,
-    /// How many bytes the token has; 9 to 15 are reserved.
+    /// The number of bytes of the token; 9 to 15 are reserved.
     pub token_length: u8,
     /// The code.
     pub code: Code,

@@ -1,4 +1,4 @@
-//! Laws of the grammar, as contracts of functions that do nothing.
+//! Laws of the grammar, as contracts of functions that do nothing, since a law is proved only as a clause.
 
 ghost use Rattle.std.specs.Prelude.{◌≡◌, ℕ, List};
 ghost use Rattle.coap_msg.specs.declared.message.MsgFault.{MsgFault};
@@ -32,7 +32,7 @@ pub fn blocks_are_read_again()
     ensures { BlocksAreReadAgain }
 {}
 
-/// What is read is a block that may be written.
+/// Each block that is read may be written.
 pub fn read_blocks_are_blocks()
     ensures { ReadBlocksAreBlocks }
 {}

@@ -1,5 +1,5 @@
-//! CoAP messages as bytes (RFC 7252, section 3), and nothing above them: what a message asks for is decided in other
-//! crates. No function here takes memory.
+//! CoAP messages as bytes (RFC 7252, section 3), and nothing above them: other crates decide the meaning of a message.
+//! No function here takes memory.
 //!
 //! ```
 //! use coap_msg::{Opts, Plain, Type4, decode, encode};
@@ -26,11 +26,11 @@
 //! }
 //! ```
 //!
-//! The grammar is `specs/Grammar.antt`, and what can be wrong with bytes `specs/Faults.antt`. The contract in a
-//! sentence: `decode` gives exactly the one message that its bytes spell, or else the first fault that they have, and
-//! `encode` writes exactly the spelling of the message that it is given. Their clauses `unique` say that the two are
-//! inverse. The laws: a message has one spelling, bytes spell at most one message, those of a message have no fault,
-//! and other bytes have at most one.
+//! The grammar is `specs/Grammar.antt`, and the faults of bytes are in `specs/Faults.antt`. The contract in a sentence:
+//! `decode` gives exactly the one message that its bytes spell, or else the first fault that they have, and `encode`
+//! writes exactly the spelling of the message that it is given. Their clauses `unique` say that the two are inverse.
+//! The laws: a message has one spelling, bytes spell at most one message, those of a message have no fault, and other
+//! bytes have at most one.
 #![tactic(auto)]
 
 mod block;
@@ -51,11 +51,12 @@ mod transmission;
 pub use block::{Block, read_block, write_block};
 pub use bounded::BoundedBytes;
 pub use constants::{
-    ACCEPT, BAD_OPTION, BAD_REQUEST, BLOCK1, BLOCK2, CONTENT, CONTENT_FORMAT, CONTINUE, Code,
-    DELETE, EMPTY, ETAG, GET, IF_MATCH, IF_NONE_MATCH, INTERNAL_SERVER_ERROR, JSON, LOCATION_PATH,
-    LONGEST_DATAGRAM, LONGEST_MESSAGE, LONGEST_PAYLOAD, LONGEST_SEGMENT, LONGEST_TOKEN,
-    METHOD_NOT_ALLOWED, OBSERVE, POST, PROXY_SCHEME, PROXY_URI, PROXYING_NOT_SUPPORTED, PUT,
-    REQUEST_ENTITY_INCOMPLETE, REQUEST_ENTITY_TOO_LARGE, SERVICE_UNAVAILABLE, TD_JSON, URI_HOST,
+    ACCEPT, BAD_OPTION, BAD_REQUEST, BLOCK1, BLOCK2, CLIENT_ERROR, CONTENT, CONTENT_FORMAT,
+    CONTINUE, Code, DELETE, DETAILS, EMPTY, ETAG, GET, IF_MATCH, IF_NONE_MATCH,
+    INTERNAL_SERVER_ERROR, JSON, LOCATION_PATH, LONGEST_BLOCK, LONGEST_DATAGRAM, LONGEST_MESSAGE,
+    LONGEST_PAYLOAD, LONGEST_SEGMENT, LONGEST_TOKEN, METHOD_NOT_ALLOWED, OBSERVE, POST,
+    PROXY_SCHEME, PROXY_URI, PROXYING_NOT_SUPPORTED, PUT, REQUEST_ENTITY_INCOMPLETE,
+    REQUEST_ENTITY_TOO_LARGE, SERVER_ERROR, SERVICE_UNAVAILABLE, SUCCESS, TD_JSON, URI_HOST,
     URI_PATH, URI_PORT, URI_QUERY,
 };
 pub use decoding::decode;
@@ -69,4 +70,4 @@ pub use message::{Message, MsgFault, RequestType, Type4};
 pub use numbers::{number_of, put_number};
 pub use options::{Options, OptionsIter};
 pub use opts::{NoRoom, Opts, put_segment};
-pub use transmission::{MOST_RETRANSMISSIONS, first_timeout};
+pub use transmission::{EXCHANGE_LIFETIME, MOST_RETRANSMISSIONS, NON_LIFETIME, first_timeout};

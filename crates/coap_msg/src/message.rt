@@ -50,7 +50,8 @@ impl Type4 {
     }
 }
 
-/// How a request is sent (RFC 7252, sections 4.2 and 4.3). An acknowledgement and a Reset are no requests.
+/// The type of the message of a request (RFC 7252, sections 4.2 and 4.3). An acknowledgement and a Reset are no
+/// requests.
 #[derive(Clone, Copy, Debug, PartialEq, Eq)]
 pub enum RequestType {
     /// In a Confirmable message.
@@ -63,7 +64,8 @@ impl RequestType {
     ghost use Rattle.std.specs.Prelude.{◌≡◌};
     ghost use Rattle.coap_msg.specs.Requests.{request_type};
 
-    /// How the request of a message of this type is sent.
+    /// The type of a request in a message of this type. The last two count as Non-confirmable, because a caller has
+    /// asked whether the message is a request.
     pub fn of(kind: Type4) -> RequestType
         ensures { result ≡ request_type kind }
     {
@@ -74,8 +76,8 @@ impl RequestType {
     }
 }
 
-/// Why bytes are no message (RFC 7252, section 3): the first of these that holds of them, where the options are judged
-/// one after another. `HasMsgFault` of `specs/Faults.antt` says when each holds.
+/// The fault of bytes that are no message (RFC 7252, section 3): the first of these that holds of them, where the
+/// options are judged one after another. `HasMsgFault` of `specs/Faults.antt` says when each holds.
 #[derive(Clone, Copy, Debug, PartialEq, Eq, Error)]
 pub enum MsgFault {
     /// There are under 4 bytes.

@@ -28,7 +28,7 @@ pub fn number_of(value: &[u8]) -> u32
     }
 }
 
-/// Writes the option of this number whose value is a number, in as few bytes as say it.
+/// Writes the option of this number whose value is a number, in as few bytes as say it, as RFC 7252 (section 3.2) asks.
 #[tactic(auto, using(crate::proofs::OptionParts::last_written))]
 pub fn put_number(options: &mut Opts<'_>, number: u16, value: u32) -> Result<(), NoRoom>
     requires { last_number 0 options.old.list ≤ number }
@@ -49,7 +49,7 @@ pub fn put_number(options: &mut Opts<'_>, number: u16, value: u32) -> Result<(),
     }
 }
 
-/// Writes a number below 2^24 to the beginning of `out`, in as few bytes as say it, and returns how many they are.
+/// Writes a number below 2^24 to the beginning of `out`, in as few bytes as say it, and returns their number.
 pub fn write_number(number: u32, out: &mut [u8; 3]) -> usize
     requires { number < 2 ^ 24 }
     ensures { IsWritten (number_bytes number) result out.old out.new }

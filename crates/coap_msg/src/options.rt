@@ -7,6 +7,21 @@ ghost use Rattle.coap_msg.specs.OptionsLeft.{options_left};
 
 use std::marker::Model;
 
+/// The nibble that one extended byte follows (RFC 7252, section 3.1).
+pub const ONE_BYTE: u8 = 13;
+
+/// The nibble that two extended bytes follow.
+pub const TWO_BYTES: u8 = 14;
+
+/// The least number that one extended byte says.
+pub const FROM_ONE_BYTE: usize = 13;
+
+/// The least number that two extended bytes say.
+pub const FROM_TWO_BYTES: usize = 269;
+
+/// The largest number of an option.
+const LARGEST_OPTION: usize = 65_535;
+
 /// The options of a message, seen as the list of their numbers and values.
 #[derive(Drop)]
 pub struct Options<'a> {
@@ -31,7 +46,7 @@ impl<'a> Options<'a> {
         self.bytes
     }
 
-    /// Goes over the options in their order: number and value of each.
+    /// Goes over the options in their order: the number and the value of each.
     pub fn iter(&self) -> OptionsIter<'a>
         ensures { options_left result ≡ self.now }
     {
@@ -60,6 +75,7 @@ impl<'a> Iterator for OptionsIter<'a> {
     ghost remaining = { item_count options_left };
 
     fn next(&mut self) -> Option<(u16, &'a [u8])> {
+        // A match and not `?`, since that says its facts of a `ControlFlow`.
         match take_option(self.last, self.rest) {
             Some((number, value, next)) => {
                 self.last = number;
@@ -80,12 +96,15 @@ pub fn take_number(nibble: u8, bytes: &[u8]) -> Option<(usize, &[u8])>
 {
     match nibble {
         0..=12 => Some((nibble as usize, bytes)),
-        13 => {
+        ONE_BYTE => {
             let (extended, rest) = bytes.split_first()?;
-            Some((*extended as usize + 13, rest))
+            Some((*extended as usize + FROM_ONE_BYTE, rest))
         }
-        14 => match bytes {
-            [high, low, rest @ ..] => Some((256 * (*high as usize) + *low as usize + 269, rest)),
+        TWO_BYTES => match bytes {
+            [high, low, rest @ ..] => {
+                let extended = 256 * (*high as usize) + *low as usize;
+                Some((extended + FROM_TWO_BYTES, rest))
+            }
             _ => None,
         },
         _ => None,
@@ -104,7 +123,7 @@ pub fn take_option(last: u16, bytes: &[u8]) -> Option<(u16, &[u8], &[u8])>
         return None;
     }
     let number = last as usize + delta;
-    if number > 65535 {
+    if number > LARGEST_OPTION {
         return None;
     }
     let (value, rest) = rest.split_at(size);

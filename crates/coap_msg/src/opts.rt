@@ -4,11 +4,12 @@ ghost use Rattle.std.specs.Prelude.{◌≡◌, ◌≤◌, ◌<◌, ◌+◌, [], 
 ghost use Rattle.coap_msg.specs.Grammar.{nibble, extended, option_spelling, options_spelling, largest_number, AreInOrder};
 ghost use Rattle.coap_msg.specs.Opts.{WrittenOptions, last_number, PutsOptions};
 
+use crate::options::{FROM_ONE_BYTE, FROM_TWO_BYTES, ONE_BYTE, TWO_BYTES};
 use servient_base::put_bytes;
 use std::marker::Model;
 use thiserror::Error;
 
-/// There is no room for what was to be written.
+/// There is no room for the option that was to be written.
 #[derive(Clone, Copy, Debug, PartialEq, Eq, Error)]
 #[error("no room")]
 pub struct NoRoom;
@@ -35,7 +36,8 @@ impl<'r> Model for Opts<'r> {
 }
 
 impl<'r> Opts<'r> {
-    /// No option yet; the bytes of all options are to fit into `room`.
+    /// No option yet. The bytes of all options are to fit into `room`, which is lent, since no function of this crate
+    /// takes memory.
     pub fn on(room: &'r mut [u8]) -> Opts<'r>
         ensures { result ≡ record { list = []; room = length room.entry.now } }
     {
@@ -106,6 +108,7 @@ fn put_option(
 {
     let delta = (number - last) as usize;
     let size = value.len();
+    // The whole length is judged before a byte is written, so that a refusal leaves the room as it was.
     if out.len() - at < 1 + extended_length(delta) + extended_length(size) + size {
         return Err(NoRoom);
     }
@@ -121,23 +124,23 @@ fn nibble_of(number: usize) -> u8
     ensures ok { result ≡ nibble number }
     ensures bound { result ≤ 14 }
 {
-    if number < 13 {
+    if number < FROM_ONE_BYTE {
         number as u8
-    } else if number < 269 {
-        13
+    } else if number < FROM_TWO_BYTES {
+        ONE_BYTE
     } else {
-        14
+        TWO_BYTES
     }
 }
 
-/// How many extended bytes an option delta or an option length has.
+/// The number of extended bytes of an option delta or an option length.
 fn extended_length(number: usize) -> usize
     ensures ok { result ≡ length (extended number) }
     ensures bound { result ≤ 2 }
 {
-    if number < 13 {
+    if number < FROM_ONE_BYTE {
         0
-    } else if number < 269 {
+    } else if number < FROM_TWO_BYTES {
         1
     } else {
         2
@@ -151,12 +154,12 @@ fn put_extended(out: &mut [u8], at: usize, number: usize) -> usize
     ensures end { result ≡ at + length (extended number) }
     ensures bytes { take result out.new ≡ take at out.old ++ extended number }
 {
-    if number < 13 {
+    if number < FROM_ONE_BYTE {
         at
-    } else if number < 269 {
-        put_bytes(out, at, &[(number - 13) as u8])
+    } else if number < FROM_TWO_BYTES {
+        put_bytes(out, at, &[(number - FROM_ONE_BYTE) as u8])
     } else {
-        let above = number - 269;
+        let above = number - FROM_TWO_BYTES;
         put_bytes(out, at, &[(above / 256) as u8, (above % 256) as u8])
     }
 }

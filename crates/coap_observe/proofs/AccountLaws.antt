@@ -1,4 +1,4 @@
--- What follows for a notification from what was done to watchers before.
+-- The consequences of earlier calls for a notification.
 use Rattle.std.proofs.Common.{◌≡◌, ℕ, ◌+◌, ◌^◌, ◌<◌, ◌≤◌, true, false, not, List, length, find, Option, Some, refl, sym, ap, subst, ◌∙◌, arith, inl, inr, ◌⊎◌}
 use Rattle.std.specs.Prelude.{Contains}
 use Rattle.std.proofs.lemmas.List.Elements.{All-nil, All-weaker}
@@ -65,7 +65,7 @@ holds capacity a u from token (sent b t v now id n did small same_capacity notif
 
 -- ---- the laws
 
--- what is known of the watcher that something is sent to
+-- facts on the observer to which something is sent
 record IsOf (a : Account) (now id : ℕ) (n : Notice) (c : Watcher) : Type 0 where
   known : IsKnown n.to (token_of n) a c
   made : ((x : Sent) × (c.notification ≡ Some x) × (c.is_marked ≡ false) × IsNotice c x.id c.sequence false n) ⊎ ((c.is_marked ≡ true) × IsNotice c id (next_sequence c.sequence) true n)
@@ -188,7 +188,7 @@ pub notices_are_in_order : NoticesAreInOrder
 notices_are_in_order capacity a t now id n us did notifies one few =
     let s = sender capacity a t now id n us did notifies in in_order a now id n s.0 one few s.1
 
--- a watcher that is there registered
+-- an observer that is there registered
 pub watcher_registered : (capacity : ℕ) (a : Account) (t : Watching) (from : Endpoint) (token : List ℕ) (w : Watcher) → Did capacity a t
     → find (is_pair from token) t.list ≡ Some w → 0 < registrations_of from token a.registered
 watcher_registered capacity a t from token w did there =

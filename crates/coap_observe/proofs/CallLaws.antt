@@ -1,4 +1,4 @@
--- What one call and what all calls leave of watchers.
+-- The observers after one call and after all calls.
 use Rattle.std.proofs.Common.{◌≡◌, ℕ, ◌≤◌, ◌&&◌, Bool, true, false, not, cond, List, [], ◌∷◌, ◌++◌, take, find, Option, Some, None, is_some, option_map, refl, sym, ap, subst, ◌∙◌, arith, inl, inr}
 use Rattle.std.specs.List.{filter, list_any}
 use Rattle.std.specs.Str.{bytes_eq}
@@ -35,7 +35,7 @@ where_same q p f w h = at (p w) h
 not_busy : (from : Endpoint) (w : Watcher) → (false && is_same_endpoint from w.from) ≡ true → is_busy from w ≡ true
 not_busy from w e = absurd (cc)
 
--- what was sent is still there where it is sent again
+-- a notification is still there where it is sent again
 some_kept : (g : Sent → Sent) (o : Option Sent) → is_some (option_map g o) ≡ is_some o
 some_kept g None = refl
 some_kept g (Some s) = refl
@@ -131,7 +131,7 @@ pub one_busy : (capacity : ℕ) (t : Watching) → Comes capacity t → (from : 
 one_busy capacity t (begins _ is) from = subst (λ (x : Watching). count (is_busy from) x.list ≤ 1) (sym is) (omega arith)
 one_busy capacity u (goes_on t _ before goes) from = busy_goes t u goes from (one_busy capacity t before from)
 
--- ---- at most one watcher has an endpoint and a token
+-- ---- at most one observer has an endpoint and a token
 
 pair_sends : (now id : ℕ) (ws us : List Watcher) (n : Option Notice) → Sends now id ws n us → (from : Endpoint) (token : List ℕ)
     → count (is_pair from token) us ≤ count (is_pair from token) ws

@@ -1,4 +1,4 @@
--- What calls on one slot, and on all watchers of a target, leave.
+-- The state after calls on one slot, and on all observers of a target.
 use Rattle.std.proofs.Common.{◌≡◌, ◌<◌, ◌≤◌, ◌+◌, ℕ, Bool, true, false, cond, List, [], ◌∷◌, ◌++◌, map, length, get_or, set, None, inl, inr, ◌∙◌, sym, refl, ap, subst, arith}
 use Rattle.std.proofs.lemmas.Bool.Decides.{eqb_tells}
 use Rattle.slot_lists.specs.Lists.{Lists, list_at, is_among, without, first_of}
@@ -13,9 +13,9 @@ use Rattle.coap_observe.proofs.SlotLaws.{length-without, uncounted_is_absent}
 use Rattle.coap_observe.proofs.PlaceLaws.{used_in, slot_below, place_in, seen_changed, seen_all_changed, seen_without, seen_added, target_bucket_below, endpoint_bucket_below}
 use Rattle.coap_observe.proofs.WalkLaws.{read_watcher}
 
--- ---- one watcher that keeps its target and its endpoint
+-- ---- one observer that keeps its target and its endpoint
 
--- what is there, as the code reads it
+-- the value that is there, as the code reads it
 pub holds : (n : ℕ) (ws : List Watcher) (o t e : Lists) (seen : Places) (slot : ℕ) (d : Watcher) → AreKept n ws o t e → places_in n ws o ≡ seen → IsUsed slot seen
     → d ≡ get_or ws slot d → d ≡ watcher_at ws slot
 holds n ws o t e seen slot d kept view used read = read ∙ read_watcher ws slot d (slot_below n ws o t e seen slot kept view used)
@@ -52,9 +52,9 @@ again_from now id w = at w.is_marked
     at true = refl
     at false = refl
 
--- ---- all watchers of a target
+-- ---- all observers of a target
 
--- what the walk along a bucket makes of the watcher of a slot
+-- the observer of a slot after the walk along a bucket
 abbrev marked_in : Lists → ℕ → ℕ → Watcher → ℕ → Watcher
 marked_in t bucket target w s = changed_among (list_at bucket t) (where_so (is_of_target target) marked) s w
 
@@ -79,7 +79,7 @@ nothing_to_do b true w e = absurd cc
 nothing_to_do true false w e = refl
 nothing_to_do false false w e = refl
 
--- the bucket has all watchers of the target
+-- the bucket has all observers of the target
 marks_all : (n : ℕ) (ws : List Watcher) (o t e : Lists) (target s : ℕ) → AreKept n ws o t e → is_among s (used_slots o) ≡ true
     → marked_in t (target_bucket n target) target (watcher_at ws s) s ≡ where_so (is_of_target target) marked (watcher_at ws s)
 marks_all n ws o t e target s kept has = elim (eqb_tells (watcher_at ws s).target target) [
@@ -109,7 +109,7 @@ seen_marked n ws ws2 o t e seen bucket target kept view is each =
     (λ s has. each s ∙ (ap (λ b. marked_in t b target (watcher_at ws s) s) is ∙ marks_all n ws o t e target s kept has))
     ∙ ap (with_changes (where_so (is_of_target target) marked)) view
 
--- ---- a watcher that is added, as the code does it
+-- ---- an observer that is added, as the code does it
 
 pub kept_adding : (n : ℕ) (ws : List Watcher) (o t e o2 t2 e2 : Lists) (slot tb eb : ℕ) (v : Watcher) → AreKept n ws o t e → is_among slot (free_slots o) ≡ true
     → tb ≡ target_bucket n v.target → eb ≡ endpoint_bucket n v.from
@@ -156,7 +156,7 @@ pub full : (n : ℕ) (ws : List Watcher) (o t e : Lists) (seen : Places) (w : Wa
 full n ws o t e seen w kept view none =
     (subst (λ (s : Places). s.capacity ≤ length s.list) view (full_at n ws o t e kept none), refl)
 
--- ---- a watcher that is taken away, or takes a new target
+-- ---- an observer that is taken away, or takes a new target
 
 pub kept_removing : (n : ℕ) (ws : List Watcher) (o t e o2 t2 e2 : Lists) (seen : Places) (slot tb eb : ℕ) → AreKept n ws o t e → places_in n ws o ≡ seen → IsUsed slot seen
     → tb ≡ target_bucket_at n ws slot → eb ≡ endpoint_bucket_at n ws slot
@@ -184,7 +184,7 @@ kept_replacing n ws o t e t2 seen slot tb tb2 target d v kept view used read is 
     subst (λ (z : Lists). AreKept n (set ws slot v) o z e) (sym moved)
     (kept_replaced n ws o t e slot v kept (used_in n ws o seen slot view used) from)
 
--- ---- what the lists are asked for
+-- ---- the conditions of the lists
 
 pub there_by_target : (n : ℕ) (ws : List Watcher) (o t e : Lists) (seen : Places) (slot tb : ℕ) → AreKept n ws o t e → places_in n ws o ≡ seen → IsUsed slot seen
     → tb ≡ target_bucket_at n ws slot → is_among slot (list_at tb t) ≡ true
@@ -213,7 +213,7 @@ pub gone_from_free : (n : ℕ) (ws : List Watcher) (o t e o2 : Lists) (slot : �
 gone_from_free n ws o t e o2 slot kept has order i =
     ap (λ (z : Lists). is_among slot (list_at i z)) order ∙ taken_from_free n ws o t e slot kept has i
 
--- what the walk changed, of the vector's own list
+-- the elements that the walk changed, of the vector's own list
 pub walked : (lent ws ws2 : List Watcher) (t : Lists) (bucket target : ℕ) → lent ≡ ws
     → ((s : ℕ) → watcher_at ws2 s ≡ marked_in t bucket target (watcher_at lent s) s)
     → (s : ℕ) → watcher_at ws2 s ≡ marked_in t bucket target (watcher_at ws s) s

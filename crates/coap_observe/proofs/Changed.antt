@@ -4,7 +4,7 @@ use Rattle.std.specs.List.{filter}
 use Rattle.std.proofs.lemmas.List.Filters.{length-filter_both}
 use Rattle.std.proofs.lemmas.Bool.{cases_Bool}
 
--- What is left of a list is no longer than it.
+-- The rest of a list is no longer than it.
 pub no_longer : {X : Type 0} (q : X → Bool) (xs : List X) → length (filter q xs) ≤ length xs
 no_longer q xs = omega (arith, length-filter_both q (λ x. not (q x)) (λ x. refl) xs)
 

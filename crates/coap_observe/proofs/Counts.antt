@@ -1,4 +1,4 @@
--- How many elements of a list pass a test, and whether one does, once the list is changed.
+-- The number of elements of a list that pass a test, and whether one does, once the list is changed.
 use Rattle.std.proofs.Common.{◌≡◌, suc, ◌+◌, ◌≤◌, Bool, true, false, not, cond, ◌||◌, List, [], ◌∷◌, ◌++◌, length, map, find, Some, None, refl, sym, ap, subst, ◌∙◌, arith, inl, inr}
 use Rattle.std.specs.List.{filter, list_any}
 use Rattle.std.proofs.lemmas.Bool.{cases_Bool}
@@ -120,7 +120,7 @@ pub any_without : {X : Type 0} (q : X → Bool) (xs : List X) → list_any q (fi
 any_without q [] = refl
 any_without q (x ∷ xs) = any_gone q (q x) x (filter (λ y. not (q y)) xs) refl (any_without q xs)
 
--- a change that keeps what the test looks at
+-- a change that keeps the parts that the test looks at
 pub any_map : {X : Type 0} (q : X → Bool) (f : X → X) → ((x : X) → q (f x) ≡ q x) → (xs : List X) → list_any q (map f xs) ≡ list_any q xs
 any_map q f h [] = refl
 any_map q f h (x ∷ xs) = λ i. h x i || any_map q f h xs i
@@ -140,7 +140,7 @@ any_push q [] y e here = ap (λ (s : Bool). s || false) here
 any_push q (x ∷ xs) y e here =
     let h = none_head (q x) (list_any q xs) e in ap (λ (s : Bool). s || list_any q (xs ++ y ∷ [])) h.0 ∙ any_push q xs y h.1 here
 
--- what is found doesn't pass a test that nothing passes
+-- an element that is found doesn't pass a test that nothing passes
 pub found_fails : {X : Type 0} (q p : X → Bool) (xs : List X) (w : X) → find p xs ≡ Some w → list_any q xs ≡ false → q w ≡ false
 found_fails q p [] w found e = absurd (cc)
 found_fails {X} q p (x ∷ xs) w found e =
@@ -167,7 +167,7 @@ none_passes {X} q (x ∷ xs) e = elim (cases_Bool (q x)) [
       ap (λ (s : Bool). s || list_any q xs) fails ∙ none_passes q xs rest
 ]
 
--- what is found passes
+-- an element that is found passes
 pub found_passes : {X : Type 0} (p : X → Bool) (xs : List X) (w : X) → find p xs ≡ Some w → p w ≡ true
 found_passes p [] w found = absurd (cc)
 found_passes {X} p (x ∷ xs) w found = elim (cases_Bool (p x)) [

@@ -1,4 +1,4 @@
--- Watchers whose notification is due.
+-- Observers whose notification is due.
 use Rattle.std.proofs.Common.{◌≡◌, ℕ, Bool, true, false, cond, List, find, Option, Some, None, refl, subst, option_and_then}
 use native.Mathlib.Omega.{arith}
 use Rattle.std.proofs.lemmas.Bool.Decides.{nat_tests}
@@ -15,7 +15,7 @@ given_up_from : (t : Bool) (w : Watcher) (from : Endpoint) → cond t (Some w.fr
 given_up_from true w from is = let same : w.from ≡ from = (cc) in subst (λ (x : Endpoint). is_from x w ≡ true) same (is_from_itself w)
 given_up_from false w from is = absurd (cc)
 
--- an endpoint that is given up is that of a watcher
+-- an endpoint that is given up is that of an observer
 given_up_by : (o : Option Watcher) (from : Endpoint) → option_and_then given_up_endpoint o ≡ Some from → (w : Watcher) × (o ≡ Some w) × (is_from from w ≡ true)
 given_up_by None from is = absurd (cc)
 given_up_by (Some w) from is = (w, refl, given_up_from (is_given_up w) w from is)
@@ -28,12 +28,12 @@ stays : (t : Bool) (w : Watcher) → cond t (Some w.from) None ≡ None → t �
 stays true w is = absurd (cc)
 stays false w is = refl
 
--- where nobody is given up, the first watcher whose notification is due isn't
+-- where nobody is given up, the first observer whose notification is due isn't
 pub not_given_up : (now : ℕ) (ws : List Watcher) (w : Watcher) → find (is_due now) ws ≡ Some w → hopeless now ws ≡ None → is_given_up w ≡ false
 not_given_up now ws w is nobody =
     stays (is_given_up w) w (subst (λ (o : Option Watcher). option_and_then given_up_endpoint o ≡ None) is nobody)
 
--- something was sent to a watcher whose notification is due
+-- something was sent to an observer whose notification is due
 pub due_was_sent : (now : ℕ) (o : Option Sent) → is_late now o ≡ true → (s : Sent) × (o ≡ Some s)
 due_was_sent now None late = absurd (cc)
 due_was_sent now (Some s) late = (s, refl)

@@ -1,4 +1,4 @@
--- What is found by a test of which at most one element passes, once the list is changed.
+-- Searches by a test that at most one element passes, once the list is changed.
 use Rattle.std.proofs.Common.{◌≡◌, ◌≤◌, Bool, true, false, cond, List, [], ◌∷◌, length, map, find, Option, Some, option_map, refl, sym, ap, subst, ◌∙◌, inl, inr}
 use Rattle.std.specs.List.{filter, list_any}
 use Rattle.std.proofs.lemmas.Bool.{cases_Bool}
@@ -25,7 +25,7 @@ not_found q xs v none found =
     let passing = passes q xs v found in
     absurd (cc)
 
--- a change that keeps what the test looks at
+-- a change that keeps the parts that the test looks at
 pub found_map : {X : Type 0} (q : X → Bool) (f : X → X) → ((x : X) → q (f x) ≡ q x) → (xs : List X) → find q (map f xs) ≡ option_map f (find q xs)
 found_map q f h [] = refl
 found_map {X} q f h (x ∷ xs) = elim (cases_Bool (q x)) [

@@ -1,4 +1,4 @@
--- What a call of the code keeps of its slots.
+-- The facts on slots that a call of the code keeps.
 use Rattle.std.proofs.Common.{◌≡◌, ◌≢◌, ◌+◌, ◌≤◌, ◌<◌, ◌==◌, ℕ, true, false, cond, List, [], ◌∷◌, ◌++◌, length, length-append, get_or, set, replicate, zero, suc, inl, inr, ◌∙◌, sym, refl, ap, subst, arith}
 use Rattle.std.proofs.lemmas.Bool.Decides.{eqb_tells}
 use Rattle.std.proofs.lemmas.List.{get_or-set_same, get_or-set_other, length-set, length-replicate}
@@ -64,7 +64,7 @@ pushed_others slot xs s other =
     let more : times_in s (xs ++ slot ∷ []) ≡ times_in s xs + 0 = times_push s slot xs ∙ ap (λ b. times_in s xs + cond b 1 0) (other_slot s slot other) in
     omega arith
 
--- ---- what a slot holds
+-- ---- the content of a slot
 
 pub watcher_stays : (ws : List Watcher) (slot s : ℕ) (v : Watcher) → s ≢ slot → watcher_at (set ws slot v) s ≡ watcher_at ws s
 watcher_stays ws slot s v other = get_or-set_other ws slot s v _ other
@@ -72,7 +72,7 @@ watcher_stays ws slot s v other = get_or-set_other ws slot s v _ other
 pub watcher_is : (ws : List Watcher) (slot : ℕ) (v : Watcher) → slot < length ws → watcher_at (set ws slot v) slot ≡ v
 watcher_is ws slot v below = get_or-set_same ws slot v _ below
 
--- what a change leaves as it was
+-- the parts that a change leaves as they were
 pub stays_of : {X : Type 0} (part : Watcher → X) (ws : List Watcher) (slot : ℕ) (v : Watcher) → slot < length ws → part v ≡ part (watcher_at ws slot)
     → (s : ℕ) → part (watcher_at (set ws slot v) s) ≡ part (watcher_at ws s)
 stays_of {X} part ws slot v below same s = elim (eqb_tells s slot) [
@@ -80,7 +80,7 @@ stays_of {X} part ws slot v below same s = elim (eqb_tells s slot) [
   | inr w ↦ ap part (watcher_stays ws slot s v w.1)
 ]
 
--- ---- a watcher that is added
+-- ---- an observer that is added
 
 pub kept_added : (n : ℕ) (ws : List Watcher) (o t e : Lists) (slot : ℕ) (v : Watcher) → AreKept n ws o t e → is_among slot (free_slots o) ≡ true
     → AreKept n (set ws slot v) (pushed_at 0 slot (without_at 1 slot o)) (pushed_at (target_bucket n v.target) slot t) (pushed_at (endpoint_bucket n v.from) slot e)
@@ -123,7 +123,7 @@ kept_added n ws o t e slot v kept has =
       endpoints_count = length-set e.lists (endpoint_bucket n v.from) _ ∙ kept.endpoints_count;
     }
 
--- ---- a watcher that is taken away
+-- ---- an observer that is taken away
 
 pub kept_removed : (n : ℕ) (ws : List Watcher) (o t e : Lists) (slot : ℕ) → AreKept n ws o t e → is_among slot (used_slots o) ≡ true
     → AreKept n ws (pushed_at 1 slot (without_at 0 slot o)) (without_at (target_bucket_at n ws slot) slot t) (without_at (endpoint_bucket_at n ws slot) slot e)
@@ -161,7 +161,7 @@ kept_removed n ws o t e slot kept has =
       endpoints_count = length-set e.lists (endpoint_bucket_at n ws slot) _ ∙ kept.endpoints_count;
     }
 
--- ---- a watcher that takes a new target
+-- ---- an observer that takes a new target
 
 pub kept_replaced : (n : ℕ) (ws : List Watcher) (o t e : Lists) (slot : ℕ) (v : Watcher) → AreKept n ws o t e → is_among slot (used_slots o) ≡ true
     → v.from ≡ (watcher_at ws slot).from
@@ -193,7 +193,7 @@ kept_replaced n ws o t e slot v kept has from =
       endpoints_count = kept.endpoints_count;
     }
 
--- ---- watchers that keep their targets and endpoints
+-- ---- observers that keep their targets and endpoints
 
 pub kept_changed : (n : ℕ) (ws ws2 : List Watcher) (o t e : Lists) → AreKept n ws o t e → length ws2 ≡ length ws
     → ((s : ℕ) → (watcher_at ws2 s).target ≡ (watcher_at ws s).target) → ((s : ℕ) → (watcher_at ws2 s).from ≡ (watcher_at ws s).from)
@@ -219,7 +219,7 @@ kept_at n ws o t e slot v kept below target from =
     kept_changed n ws (set ws slot v) o t e kept (length-set ws slot v)
     (stays_of (λ (w : Watcher). w.target) ws slot v below target) (stays_of (λ (w : Watcher). w.from) ws slot v below from)
 
--- ---- which lists don't have a slot
+-- ---- the lists that don't have a slot
 
 -- a free slot
 pub taken_from_free : (n : ℕ) (ws : List Watcher) (o t e : Lists) (slot : ℕ) → AreKept n ws o t e → is_among slot (free_slots o) ≡ true
@@ -240,7 +240,7 @@ pub free_has_no_endpoint : (n : ℕ) (ws : List Watcher) (o t e : Lists) (slot :
 free_has_no_endpoint n ws o t e slot kept has =
     undealt (endpoint_bucket_at n ws) (used_slots o) e.lists slot kept.by_endpoint (free_place n ws o t e slot kept has).1
 
--- a slot with a watcher
+-- a slot with an observer
 pub taken_from_used : (n : ℕ) (ws : List Watcher) (o t e : Lists) (slot : ℕ) → AreKept n ws o t e → is_among slot (used_slots o) ≡ true
     → (i : ℕ) → is_among slot (list_at i (without_at 0 slot o)) ≡ false
 taken_from_used n ws o t e slot kept has =

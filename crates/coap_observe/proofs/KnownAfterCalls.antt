@@ -1,4 +1,4 @@
--- What an account says of watchers still holds after one call.
+-- The facts of an account on observers still hold after one call.
 use Rattle.std.proofs.Common.{◌≡◌, ℕ, ◌+◌, ◌^◌, ◌<◌, ◌≤◌, ◌&&◌, Bool, true, false, cond, List, [], ◌∷◌, ◌++◌, length, find, Option, Some, None, option_map, refl, sym, ap, subst, ◌∙◌, arith, inl, inr}
 use Rattle.std.specs.Prelude.{◌==◌, Contains, All}
 use Rattle.std.specs.Str.{bytes_eq}
@@ -24,7 +24,7 @@ use Rattle.coap_observe.proofs.KnownOfWatchers.{registrations_push, fresh_push, 
 
 -- ---- one call: registrations
 
--- one more registration leaves what it isn't about
+-- one more registration leaves the facts on other pairs
 known_more : (from : Endpoint) (token : List ℕ) (a : Account) (r : Registration) (w : Watcher) → IsKnown from token a w
     → IsKnown from token (record a { registered = a.registered ++ r ∷ [] }) w
 known_more from token a r w k =
@@ -107,7 +107,7 @@ sent_more from token a r all =
     (λ (s : SentNotice). is_for from token s.notice ≡ true → 0 < registrations_of from token (a.registered ++ r ∷ []))
     (λ s some whom. let before = some whom in let more = registrations_push from token a.registered r in omega arith) a.sent all
 
--- the pair of a watcher, and another
+-- the pair of an observer, and another
 same_pair : (from end : Endpoint) (token name : List ℕ) (w : Watcher) → is_pair from token w ≡ true → is_pair end name w ≡ true → (is_same_endpoint from end && bytes_eq token name) ≡ true
 same_pair from end token name w mine theirs =
     let a = pair_is from token w mine in
@@ -240,7 +240,7 @@ known_beside from token a n w other k =
       };
     }
 
--- what is the same message again
+-- the same message again
 known_again : (from : Endpoint) (token : List ℕ) (a : Account) (n : Notice) (c : Watcher) (now : ℕ) (x : Sent) → c.notification ≡ Some x → c.is_marked ≡ false
     → IsNotice c x.id c.sequence false n → IsKnown from token a c → IsKnown from token (with_notice (Some n) a) (resent now c)
 known_again from token a n c now x was unmarked notice k =
@@ -273,7 +273,7 @@ known_again from token a n c now x was unmarked notice k =
     same_sent : (p q : Sent) → Some p ≡ Some q → p ≡ q
     same_sent p q e' = cc
 
--- what is a new one
+-- a new message
 known_fresh : (from : Endpoint) (token : List ℕ) (a : Account) (n : Notice) (c v : Watcher) (id : ℕ) → id < 2 ^ 16 → c.is_marked ≡ true → IsNotice c id (next_sequence c.sequence) true n
     → v.target ≡ c.target → v.sequence ≡ next_sequence c.sequence → v.is_marked ≡ false → ((y : Sent) → v.notification ≡ Some y → y.id ≡ id)
     → IsKnown from token a c → IsKnown from token (with_notice (Some n) a) v

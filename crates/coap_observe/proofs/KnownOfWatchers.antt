@@ -1,4 +1,5 @@
--- What an account says of a watcher: what was sent to it, and that its pair registered. Lists of watchers keep it.
+-- The facts of an account on an observer: the notifications to it, and the registration of its pair. Lists of observers
+-- keep them.
 use Rattle.std.proofs.Common.{◌≡◌, ℕ, ◌+◌, ◌^◌, ◌<◌, ◌≤◌, ◌&&◌, Bool, true, false, cond, suc, List, [], ◌∷◌, ◌++◌, length, map, find, Option, Some, None, option_map, refl, sym, ap, subst, ◌∙◌, arith, inl, inr, ◌⊎◌}
 use Rattle.std.specs.Prelude.{◌==◌, Contains, All}
 use Rattle.std.specs.List.{filter}
@@ -95,7 +96,7 @@ own_place target t ts e =
     turned : (m n : ℕ) → (m == n) ≡ true → (n == m) ≡ true
     turned m n h = grind (arith, nat_tests)
 
--- ---- what holds of a watcher
+-- ---- facts on an observer
 
 -- a notification that was sent to it
 pub record IsBehind (a : Account) (w : Watcher) (s : SentNotice) : Type 0 where

@@ -1,4 +1,4 @@
--- The sequence numbers of watchers.
+-- The sequence numbers of observers.
 use Rattle.std.proofs.Common.{◌≡◌, ℕ, ◌≤◌, ◌&&◌, Bool, true, false, not, cond, List, [], ◌∷◌, ◌++◌, map, take, find, Option, Some, None, option_map, refl, sym, ap, subst, ◌∙◌, arith, inl, inr, ◌⊎◌}
 use Rattle.std.specs.List.{filter, list_any}
 use Rattle.std.specs.Option.{option_or}
@@ -29,7 +29,7 @@ number_of : (o : Option Watcher) (n : ℕ) → option_map (λ w. w.sequence) o �
 number_of None n e = absurd (cc)
 number_of (Some w) n e = (w, refl, (cc))
 
--- ---- what is found once endpoints were given up
+-- ---- searches once endpoints were given up
 
 absent_of : (q : Watcher → Bool) (ws : List Watcher) → find q ws ≡ None → list_any q ws ≡ false
 absent_of q ws none = none_passes q ws none
@@ -136,7 +136,7 @@ gone_sends q now id ws _ _ (first c m us none_due found notice is) keeps absent 
     subst (λ (vs : List Watcher). list_any q vs ≡ false) (sym is) (any_first q (is_free ws) (notified now id) (keeps (notified now id) (λ x. refl) (λ x. refl)) ws ∙ absent)
 gone_sends q now id ws _ _ (nothing us none_due none_free is) keeps absent = subst (λ (vs : List Watcher). list_any q vs ≡ false) (sym is) absent
 
--- what was left when a notice was sent has the one that was there before
+-- the list that was left when a notification was sent has the observer that was there before
 left_has : (q : Watcher → Bool) (now id : ℕ) (ws us : List Watcher) (n : Option Notice) (v : Watcher) → Sends now id ws n us
     → ((f : Watcher → Watcher) → ((x : Watcher) → (f x).from ≡ x.from) → ((x : Watcher) → (f x).token ≡ x.token) → (x : Watcher) → q (f x) ≡ q x)
     → find q us ≡ Some v → (w : Watcher) × (find q ws ≡ Some w)
@@ -199,7 +199,7 @@ number_rises capacity t u from token before after comes (sends now id n same_cap
       | inr e ↦ inr (sym later.2 ∙ e ∙ ap (λ (x : Watcher). next_sequence x.sequence) is ∙ ap next_sequence it.2)
     ]
 
--- ---- what is said
+-- ---- the number that is said
 
 replaced_number : (q : Watcher → Bool) (target : ℕ) (w : Watcher) → q w ≡ true → (where_so q (replaced target) w).sequence ≡ next_sequence w.sequence
 replaced_number q target w it = ap (λ (t : Bool). (cond t (replaced target w) w).sequence) it
@@ -235,13 +235,13 @@ registration_says from token target t u (New m) n reg says =
     )
 registration_says from token target t u Full n reg says = absurd (cc)
 
--- a notice is for the watcher that it is made of
+-- a notification is for the observer that it is made of
 pub notice_for : (c : Watcher) (id sequence : ℕ) (fresh : Bool) (n : Notice) → IsNotice c id sequence fresh n
     → is_pair n.to (take n.token_length n.token) c ≡ true
 notice_for c id sequence fresh n notice =
     (λ i. is_same_endpoint (notice.to i) c.from && bytes_eq (notice.token i) c.token) ∙ own_pair c
 
--- what is said of a watcher that is found, and changed
+-- the number that is said of an observer that is found, and changed
 record Says (q : Watcher → Bool) (ws us : List Watcher) (n : Notice) : Type 0 where
   it : Watcher
   was : find q ws ≡ Some it

@@ -1,4 +1,4 @@
--- What is seen of the slots of the code, and what is found among them.
+-- The places, from the slots of the code, and searches among them.
 use Rattle.std.proofs.Common.{◌≡◌, ◌≢◌, ◌+◌, ◌≤◌, ◌<◌, ◌==◌, ◌&&◌, ◌||◌, ℕ, Bool, true, false, not, cond, List, [], ◌∷◌, ◌++◌, length, map, set, Option, Some, None, is_some, inl, inr, ◌∙◌, sym, refl, ap, subst, arith}
 use Rattle.std.specs.Option.{option_map}
 use Rattle.std.specs.List.{find, filter, list_any}
@@ -83,7 +83,7 @@ pub at_place : (n : ℕ) (ws : List Watcher) (o : Lists) (slot : ℕ) → times_
 at_place n ws o slot once =
     filter-map (λ (q : Place). slot == q.slot) (place_at ws) (used_slots o) ∙ ap (map (place_at ws)) (one_kept slot (used_slots o) once)
 
--- a slot with a watcher is among those, and its place holds what it holds
+-- a slot with an observer is among those, and its place has the same content
 pub place_used : (n : ℕ) (ws : List Watcher) (o : Lists) (slot : ℕ) (p : Place) → IsAt slot p (places_in n ws o)
     → (is_among slot (used_slots o) ≡ true) × (p ≡ place_at ws slot)
 place_used n ws o slot p at =
@@ -106,7 +106,7 @@ place_in n ws o t slot p view at =
     let there : IsAt slot p (places_in n ws o) = subst (λ (u : Places). IsAt slot p u) (sym view) at in
     ap (λ (q : Place). q.watcher) (place_used n ws o slot p there).1
 
--- ---- what is seen after a call
+-- ---- the places after a call
 
 change_at : (ws : List Watcher) (slot : ℕ) (v : Watcher) (f : Watcher → Watcher) (s : ℕ) → slot < length ws → v ≡ f (watcher_at ws slot)
     → place_at (set ws slot v) s ≡ changed_in slot f (place_at ws s)
@@ -171,7 +171,7 @@ endpoint_bucket_below n from some = mod_below _ n some
 pub target_bucket_below : (n target : ℕ) → 0 < n → target_bucket n target < n
 target_bucket_below n target some = mod_below target n some
 
--- ---- what is found
+-- ---- searches
 
 -- whether one passes, by the slots
 pub any_mapped : (test : Watcher → Bool) (n : ℕ) (ws : List Watcher) (o : Lists)
@@ -214,12 +214,13 @@ none_elsewhere p (x ∷ xs) ys h none = elim (cases_Bool (p x)) [
   | inr e ↦ rw e (none_elsewhere p xs ys (λ s m t. h s (among_rest s x xs m) t) none)
 ]
 
--- the watcher of a slot that is used
+-- the observer of a slot that is used
 found_at : (test : Watcher → Bool) (n : ℕ) (ws : List Watcher) (o t e : Lists) (slot : ℕ) → AreKept n ws o t e → is_among slot (used_slots o) ≡ true
     → test (watcher_at ws slot) ≡ true → Finds test (places_in n ws o) (Some slot)
 found_at test n ws o t e slot kept has passes = (place_at ws slot, at_place n ws o slot (used_place n ws o t e slot kept has).1, passes)
 
--- what is found in the list of an endpoint's bucket is found among all, where only watchers of the endpoint pass
+-- an observer that is found in the list of an endpoint's bucket is found among all, where only those of the endpoint
+-- pass
 pub found_in_bucket : (test : Watcher → Bool) (from : Endpoint) (n : ℕ) (ws : List Watcher) (o t e : Lists) (r : Option ℕ) → AreKept n ws o t e
     → ((w : Watcher) → test w ≡ true → is_same_endpoint from w.from ≡ true) → endpoint_bucket n from < n
     → r ≡ find (λ s. test (watcher_at ws s)) (list_at (endpoint_bucket n from) e) → Finds test (places_in n ws o) r
@@ -239,7 +240,7 @@ found_in_bucket test from n ws o t e (Some slot) kept only below is =
     = dealt_from (endpoint_bucket_at n ws) (used_slots o) e.lists slot (endpoint_bucket n from) kept.by_endpoint (omega (arith, kept.endpoints_count)) there in
     found_at test n ws o t e slot kept (counted_is_among slot (used_slots o) used) passes
 
--- what is found first in the list of all
+-- the first that is found in the list of all
 pub found_first : (test : Watcher → Bool) (n : ℕ) (ws : List Watcher) (o t e : Lists) (r : Option ℕ) → AreKept n ws o t e
     → r ≡ find (λ s. test (watcher_at ws s)) (used_slots o) → FindsFirst test (places_in n ws o) r
 found_first test n ws o t e None kept is =
@@ -300,7 +301,7 @@ pub none_among : (test : Watcher → Bool) (n : ℕ) (ws ws2 : List Watcher) (o 
 none_among test n ws ws2 o same none =
     any_mapped test n ws o ∙ ((λ i. list_any (λ s. test (watcher_at (sym same i) s)) (used_slots o)) ∙ none)
 
--- a watcher that is wanted is of the endpoint
+-- an observer that is wanted is of the endpoint
 pub wanted_is_from : (from : Endpoint) (wanted : Wanted) (w : Watcher) → is_wanted from wanted w ≡ true → is_same_endpoint from w.from ≡ true
 wanted_is_from from Any w e = e
 wanted_is_from from (SentAs id) w e = named from id w.from w.notification e
@@ -314,7 +315,7 @@ wanted_is_from from Marked w e = (both (is_same_endpoint from w.from) w.is_marke
 pub pair_is_from : (from : Endpoint) (token : List ℕ) (w : Watcher) → is_pair from token w ≡ true → is_same_endpoint from w.from ≡ true
 pair_is_from from token w e = (both (is_same_endpoint from w.from) (bytes_eq token w.token) e).0
 
--- a slot with a watcher is one of the list's places
+-- a slot with an observer is one of the list's places
 pub slot_below : (n : ℕ) (ws : List Watcher) (o t e : Lists) (seen : Places) (slot : ℕ) → AreKept n ws o t e → places_in n ws o ≡ seen → IsUsed slot seen → slot < length ws
 slot_below n ws o t e seen slot kept view used =
     let place = used_place n ws o t e slot kept (used_in n ws o seen slot view used) in

@@ -1,4 +1,4 @@
--- What is sent, by the places of watchers.
+-- Sending, by the places of observers.
 use Rattle.std.proofs.Common.{◌≡◌, ◌<◌, ℕ, Bool, true, false, cond, List, [], ◌∷◌, find, Some, None, option_and_then, inl, inr, ◌∙◌, sym, refl, ap, subst, arith}
 use Rattle.std.specs.List.{list_any}
 use Rattle.std.proofs.lemmas.Bool.{cases_Bool}
@@ -11,7 +11,7 @@ use Rattle.coap_observe.proofs.Counts.{found_passes}
 use Rattle.coap_observe.proofs.Due.{not_given_up, due_was_sent}
 use Rattle.coap_observe.proofs.ViewLaws.{none_found, changed_first, found_watcher}
 
--- ---- who is given up
+-- ---- the endpoint that is given up
 
 pub hopeless_is : (now : ℕ) (t : Places) (slot : ℕ) (d : Watcher) → FindsFirst (is_due now) t (Some slot) → ((q : Place) → IsAt slot q t → d ≡ q.watcher)
     → given_up_endpoint d ≡ hopeless now (watchers_in t)
@@ -32,7 +32,7 @@ served now t slot found nobody_is p at =
     subst (λ (q : Place). is_given_up q.watcher ≡ false) it
     (not_given_up now (watchers_in t) found.0.watcher (found_watcher (is_due now) t found.0 found.2) nobody_is)
 
--- ---- what is sent again
+-- ---- messages that are sent again
 
 first_agrees : (test : Watcher → Bool) (f g : Watcher → Watcher) (ws : List Watcher) (w : Watcher) → find test ws ≡ Some w → f w ≡ g w → with_first test f ws ≡ with_first test g ws
 first_agrees test f g [] w found e = refl
@@ -67,7 +67,7 @@ sends_again now id t t2 slot n found is noticed =
           (list ∙ first_agrees (is_due now) (sent_once_more now id) (resent now) (watchers_in t) found.0.watcher there (once_more_is now id found.0.watcher false plain))
     ]
 
--- ---- what is sent first
+-- ---- messages that are sent for the first time
 
 pub sends_first : (now id : ℕ) (t t2 : Places) (slot : ℕ) (n : Notice) → list_any (is_due now) (watchers_in t) ≡ false → FindsFirst (is_free (watchers_in t)) t (Some slot)
     → t2 ≡ with_change slot (notified now id) t → ((p : Place) → IsAt slot p t → IsNotice p.watcher id (next_sequence p.watcher.sequence) true n)

@@ -1,4 +1,4 @@
--- How often a notification is sent that nothing answers.
+-- The number of times that a notification is sent that nothing answers.
 use Rattle.std.proofs.Common.{◌≡◌, ℕ, ◌+◌, ◌≤◌, ◌&&◌, Bool, true, false, not, cond, List, [], ◌∷◌, ◌++◌, map, find, Option, Some, None, is_some, option_map, refl, sym, ap, subst, ◌∙◌, arith, inl, inr, ◌⊎◌}
 use Rattle.std.specs.Prelude.{◌==◌, nat_le, option_and_then, if◌then◌else◌}
 use Rattle.std.specs.List.{filter, list_any}
@@ -28,7 +28,7 @@ use Rattle.coap_observe.proofs.Tokens.{same_token, own_token}
 abbrev HasSent : ℕ → Watcher → Type 0
 HasSent r w = (s : Sent) × (w.notification ≡ Some s) × (s.retransmissions ≡ r)
 
--- what holds of a pair: if it is there, its notification was sent again so often, and that is often enough
+-- a fact on a pair: if it is there, its notification was sent again so often, and that is often enough
 record Holds (from : Endpoint) (token : List ℕ) (r : ℕ) (ws : List Watcher) : Type 0 where
   bound : r ≤ 4
   busy : (w : Watcher) → find (is_pair from token) ws ≡ Some w → HasSent r w
@@ -36,7 +36,7 @@ record Holds (from : Endpoint) (token : List ℕ) (r : ℕ) (ws : List Watcher) 
 pub same_one : (w v : Watcher) → Some w ≡ Some v → w ≡ v
 same_one w v e = cc
 
--- the pair is that of a watcher
+-- the pair is that of an observer
 pub pair_is : (from : Endpoint) (token : List ℕ) (w : Watcher) → is_pair from token w ≡ true → (from ≡ w.from) × (token ≡ w.token)
 pair_is from token w e =
     let h = both (is_same_endpoint from w.from) (bytes_eq token w.token) e in
@@ -46,7 +46,7 @@ not_true : (t : Bool) → (t ≡ true → ⊥) → t ≡ false
 not_true true no_way = absurd (no_way refl)
 not_true false no_way = refl
 
--- another pair is another watcher's
+-- another pair is another observer's
 other_pair : (from end : Endpoint) (token name : List ℕ) (w : Watcher) → is_pair from token w ≡ true → (is_same_endpoint from end && bytes_eq token name) ≡ false → is_pair end name w ≡ false
 other_pair from end token name w mine other = not_true (is_pair end name w) (λ theirs.
     let a = pair_is from token w mine in
@@ -58,7 +58,7 @@ other_pair from end token name w mine other = not_true (is_pair end name w) (λ 
     (subst (λ (x : List ℕ). (is_same_endpoint from from && bytes_eq token x) ≡ true) names (ap (λ (b : Bool). b && bytes_eq token token) (itself from) ∙ own_token token)) in
     cc)
 
--- what another endpoint answers is no answer of its
+-- an answer of another endpoint is no answer of its
 other_end : (from end : Endpoint) (token : List ℕ) (id : ℕ) (w : Watcher) → is_pair from token w ≡ true → is_same_endpoint from end ≡ false → is_sent_as end id w ≡ false
 other_end from end token id w mine other = at w.notification
   where
@@ -121,7 +121,7 @@ held_push from token r ws x other h = record {
         no_one : None ≡ Some v → ⊥
         no_one e' = cc
 
--- ---- what is sent
+-- ---- messages that are sent
 
 -- the last that is left isn't given up
 served : (now : ℕ) (ws us : List Watcher) → GivesUp now ws us → hopeless now us ≡ None
@@ -146,7 +146,7 @@ few_at (Some d) c s e none was =
 few_sent : (now : ℕ) (ws : List Watcher) (c : Watcher) (s : Sent) → hopeless now ws ≡ None → find (is_due now) ws ≡ Some c → c.notification ≡ Some s → s.retransmissions + 1 ≤ 4
 few_sent now ws c s none found was = few_at (find (is_due now) ws) c s found none was
 
--- a notice is for the watcher that it is made of
+-- a notification is for the observer that it is made of
 pub for_whom : (from : Endpoint) (token : List ℕ) (c : Watcher) (id sequence : ℕ) (fresh : Bool) (n : Notice) → IsNotice c id sequence fresh n → is_for from token n ≡ is_pair from token c
 for_whom from token c id sequence fresh n notice = λ i. is_same_endpoint from (notice.to i) && bytes_eq token (notice.token i)
 
@@ -298,7 +298,7 @@ at_most_five capacity n t u from token w s comes there was once stays =
       busy = λ v found. (s, ap (λ (x : Watcher). x.notification) (same_one v w (sym found ∙ there)) ∙ was, once);
     })).bound
 
--- ---- what is sent again
+-- ---- messages that are sent again
 
 made_of : (from : Endpoint) (token : List ℕ) (ws : List Watcher) (w c : Watcher) (p : Watcher → Bool) (f : Watcher → Watcher) → find p ws ≡ Some c → find (is_pair from token) ws ≡ Some w
     → is_pair from token c ≡ true → count (is_pair from token) ws ≤ 1 → ((x : Watcher) → is_pair from token (f x) ≡ is_pair from token x) → c ≡ w
@@ -348,7 +348,7 @@ sends_the_same capacity now id t from token w s n us comes there was notifies wh
         let other = unsent now id sent.left us (Some m) sent.sends from token m (none_passes (is_pair from token) sent.left none) refl in
         cc
 
--- ---- what is due
+-- ---- notifications that are due
 
 due_gone : (from : Endpoint) (token : List ℕ) (now : ℕ) (w : Watcher) (ws us : List Watcher) → GivesUp now ws us → find (is_pair from token) ws ≡ Some w → is_due now w ≡ true
     → count (is_pair from token) ws ≤ 1 → find (is_due now) us ≡ None → list_any (is_from from) us ≡ false

@@ -1,4 +1,4 @@
--- Lists of slots: how often one is there, and how they are dealt to lists by a number.
+-- Lists of slots: the number of times that one is there, and the way in which they are dealt to lists by a number.
 use Rattle.std.proofs.Common.{◌≡◌, ◌≢◌, ◌+◌, ◌≤◌, ◌<◌, ◌==◌, ◌||◌, ℕ, Bool, true, false, cond, List, [], ◌∷◌, ◌++◌, length, get_or, set, Option, Some, inl, inr, ◌∙◌, sym, refl, ap, subst, arith}
 use Rattle.std.specs.Prelude.{nat_lt}
 use Rattle.std.specs.List.{find}
@@ -9,7 +9,7 @@ use Rattle.slot_lists.specs.Lists.{is_among, without, from_slot}
 use Rattle.slot_lists.proofs.Among.{either}
 use Rattle.coap_observe.specs.Kept.{times_in, once_below, AreDealt}
 
--- ---- how often a slot is there
+-- ---- the number of times that a slot is there
 
 below_at : (s n : ℕ) (b : Bool) → nat_lt s n ≡ b → 1 ≤ cond b 1 0 → s < n
 below_at s n true e h = grind (arith, nat_tests)

@@ -23,7 +23,7 @@ first_less now test change (x ∷ ws) w is less = by_test (test x) is (λ e. fir
         omega (arith, here)
     by_test false e rest = omega (arith, rest e)
 
--- where watchers are removed there is no more
+-- where observers are removed there is no more
 pub some_less : (now : ℕ) (test : Watcher → Bool) (ws : List Watcher) → unsent now (filter test ws) ≤ unsent now ws
 some_less now test [] = omega arith
 some_less now test (x ∷ ws) = by_test (test x) (some_less now test ws)
@@ -46,7 +46,7 @@ no_longer_marked now w v marked waits none = subst (λ (b : Bool). unsent_to now
     (subst (λ (b : Bool). cond b 1 0 + cond v.is_marked 1 0 < cond (is_due now w) 1 0 + 1) (sym waits)
     (subst (λ (b : Bool). cond false 1 0 + cond b 1 0 < cond (is_due now w) 1 0 + 1) (sym none) (omega arith)))
 
--- what is sent once more is no new value
+-- a message that is sent once more has no new value
 once_more_unmarked : (now id : ℕ) (w : Watcher) → (sent_once_more now id w).is_marked ≡ false
 once_more_unmarked now id w = elim (cases_Bool w.is_marked) [
   | inl marked_one ↦ ap (λ (b : Bool). (cond b (renewed now id w) (resent now w)).is_marked) marked_one
@@ -57,7 +57,7 @@ has_value : (m b : Bool) → (m && b) ≡ true → m ≡ true
 has_value true b e = refl
 has_value false b e = e
 
--- ---- by the places of watchers
+-- ---- by the places of observers
 
 pub again_less : (now id : ℕ) (t t2 : Places) (slot : ℕ) → FindsFirst (is_due now) t (Some slot) → t2 ≡ with_change slot (sent_once_more now id) t
     → ((p : Place) → IsAt slot p t → is_due now (sent_once_more now id p.watcher) ≡ false) → unsent now (watchers_in t2) < unsent now (watchers_in t)

@@ -1,4 +1,4 @@
--- From watchers in slots to watchers alone.
+-- From observers in slots to observers alone.
 use Rattle.std.proofs.Common.{◌≡◌, ◌<◌, ◌≤◌, ◌==◌, ◌&&◌, ◌||◌, ℕ, Bool, true, false, not, cond, List, [], ◌∷◌, length, map, Option, Some, None, is_some, option_map, inl, inr, ◌∙◌, sym, refl, ap, subst, arith}
 use Rattle.std.specs.List.{find, filter, list_any, AllByRecursion}
 use Rattle.std.proofs.lemmas.Bool.{cases_Bool}
@@ -11,7 +11,7 @@ use Rattle.coap_observe.proofs.Changed.{fewer}
 use Rattle.coap_observe.proofs.Counts.{found_passes, count_weaker}
 use Rattle.coap_observe.proofs.PlaceLaws.{filter-map, find-map, map_twice}
 
--- ---- what a filter keeps
+-- ---- filters
 
 passes_first : {A : Type 0} (p : A → Bool) (xs : List A) (x : A) (rest : List A) → filter p xs ≡ x ∷ rest → p x ≡ true
 passes_first p [] x rest e = absurd cc
@@ -105,7 +105,7 @@ none_found p (y ∷ ys) e = at (p y) e (none_found p ys)
     at true e rec = absurd cc
     at false e rec = rec e
 
--- ---- the watcher that passes a test which few pass, by its slot
+-- ---- the observer that passes a test which few pass, by its slot
 
 agree : (test : Watcher → Bool) (t : Places) (slot : ℕ) (p : Place) → IsAt slot p t → test p.watcher ≡ true → length (filter test (watchers_in t)) ≤ 1
     → AllByRecursion (λ q. (slot == q.slot) ≡ test q.watcher) t.list
@@ -157,7 +157,7 @@ found_unique test t slot p at passes few =
     let one : filter (λ q. test q.watcher) t.list ≡ p ∷ [] = only_one (λ q. slot == q.slot) (λ q. test q.watcher) t.list p at passes (omega arith) in
     find-map test (λ (q : Place). q.watcher) t.list ∙ ap (option_map (λ (q : Place). q.watcher)) (found_in_filter (λ q. test q.watcher) t.list p [] one)
 
--- ---- the first watcher that passes a test, by its slot
+-- ---- the first observer that passes a test, by its slot
 
 untouched : (f : Watcher → Watcher) (slot : ℕ) (ps : List Place) → filter (λ q. slot == q.slot) ps ≡ []
     → map (λ (q : Place). q.watcher) (map (changed_in slot f) ps) ≡ map (λ (q : Place). q.watcher) ps
@@ -205,13 +205,13 @@ changed_first test f t slot p at found = first_changed test f slot t.list p at f
 pub found_watcher : (test : Watcher → Bool) (t : Places) (p : Place) → find (λ q. test q.watcher) t.list ≡ Some p → find test (watchers_in t) ≡ Some p.watcher
 found_watcher test t p found = find-map test (λ (q : Place). q.watcher) t.list ∙ ap (option_map (λ (q : Place). q.watcher)) found
 
--- ---- all watchers are changed
+-- ---- all observers are changed
 
 pub changed_all : (f : Watcher → Watcher) (t : Places) → watchers_in (with_changes f t) ≡ map f (watchers_in t)
 changed_all f t =
     map_twice (λ (q : Place). q.watcher) (changed_place f) t.list ∙ sym (map_twice f (λ (q : Place). q.watcher) t.list)
 
--- ---- a watcher of those that pass a test is taken away, and all of them later
+-- ---- an observer of those that pass a test is taken away, and all of them later
 
 gone_anyway : (test : Watcher → Bool) (slot : ℕ) (ps : List Place) → AllByRecursion (λ q. (slot == q.slot) ≡ true → test q.watcher ≡ true) ps
     → filter (λ w. not (test w)) (map (λ (q : Place). q.watcher) (filter (λ q. not (slot == q.slot)) ps)) ≡ filter (λ w. not (test w)) (map (λ (q : Place). q.watcher) ps)
@@ -256,7 +256,7 @@ fewer_left t slot p at =
     fewer (λ (q : Place). slot == q.slot) (λ q. not (slot == q.slot)) t.list p (found_in_filter (λ (q : Place). slot == q.slot) t.list p [] at)
     (ap not (passes_first (λ (q : Place). slot == q.slot) t.list p [] at))
 
--- what passes no test is kept
+-- an element that passes no test is kept
 pub all_stay : (test : Watcher → Bool) (ws : List Watcher) → list_any test ws ≡ false → filter (λ w. not (test w)) ws ≡ ws
 all_stay test [] e = refl
 all_stay test (w ∷ ws) e = at (test w) e (all_stay test ws)

@@ -1,4 +1,4 @@
--- Walks from slot to slot that change what is there, or look at all.
+-- Walks from slot to slot that change each, or look at all.
 use Rattle.std.proofs.Common.{◌≡◌, ◌<◌, ◌||◌, ℕ, zero, suc, Bool, true, false, cond, List, [], ◌∷◌, length, get_or, set, Option, Some, inl, inr, ◌∙◌, sym, refl, ap, subst, arith}
 use Rattle.std.specs.List.{list_any}
 use Rattle.std.proofs.lemmas.Bool.Decides.{eqb_tells}
@@ -8,7 +8,7 @@ use Rattle.coap_observe.specs.Kept.{watcher_at}
 use Rattle.coap_observe.specs.Watching.{where_so, is_of_target, marked}
 use Rattle.coap_observe.proofs.KeptLaws.{watcher_is, watcher_stays}
 
--- what is read of a slot within the list
+-- the value that is read of a slot within the list
 pub read_watcher : (ws : List Watcher) (slot : ℕ) (d : Watcher) → slot < length ws → get_or ws slot d ≡ watcher_at ws slot
 read_watcher ws slot d below = within ws slot below
   where
@@ -23,8 +23,8 @@ again_at : (f : Watcher → Watcher) (w : Watcher) (b : Bool) → f (f w) ≡ f 
 again_at f w true e = e
 again_at f w false e = refl
 
--- One slot was changed, and the rest is to come: that is what was to come with the slot, if a change that is made twice is
--- made once.
+-- One slot was changed, and the rest is to come: it is the walk with the slot, if a change that is made twice is made
+-- once.
 pub walks_on : (f : Watcher → Watcher) → ((w : Watcher) → f (f w) ≡ f w) → (ws : List Watcher) (slot : ℕ) (v : Watcher) (rest : List ℕ) (s : ℕ) → slot < length ws
     → v ≡ f (watcher_at ws slot)
     → cond (is_among s rest) (f (watcher_at (set ws slot v) s)) (watcher_at (set ws slot v) s) ≡ cond (is_among s (slot ∷ rest)) (f (watcher_at ws s)) (watcher_at ws s)
@@ -40,7 +40,7 @@ walks_on f twice ws slot v rest s below is = elim (eqb_tells s slot) [
       ap (λ (z : Watcher). cond (is_among s rest) (f z) z) now ∙ ap (λ b. cond (b || is_among s rest) (f (watcher_at ws s)) (watcher_at ws s)) (sym w.0)
 ]
 
--- to mark a watcher twice is to mark it once
+-- to mark an observer twice is to mark it once
 pub marked_twice : (target : ℕ) (w : Watcher) → where_so (is_of_target target) marked (where_so (is_of_target target) marked w) ≡ where_so (is_of_target target) marked w
 marked_twice target w = at (is_of_target target w) refl
   where

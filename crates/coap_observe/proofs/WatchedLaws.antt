@@ -1,4 +1,4 @@
--- What each call does to watchers, by what it does to their places, and what always holds of them.
+-- The effect of each call on observers, by its effect on their places, and their invariant.
 use Rattle.std.proofs.Common.{◌≡◌, ◌<◌, ◌≤◌, ◌==◌, ◌&&◌, ◌||◌, ℕ, Bool, true, false, not, cond, List, [], ◌∷◌, ◌++◌, length, map, find, Option, Some, None, is_some, option_map, inl, inr, ◌∙◌, sym, refl, ap, subst, arith}
 use Rattle.std.specs.List.{filter, list_any}
 use Rattle.std.proofs.lemmas.Bool.{cases_Bool}
@@ -19,14 +19,14 @@ use Rattle.coap_observe.proofs.Counts.{count_weaker, any_push, any_map}
 use Rattle.coap_observe.proofs.PlaceLaws.{wanted_is_from}
 use Rattle.coap_observe.proofs.ViewLaws.{found_any, none_found, changed_unique, removed_unique, found_unique, changed_all, all_stay}
 
--- what is seen of places
+-- the observers that are seen of places
 abbrev pub seen : Places → Watching
 seen p = record { capacity = p.capacity; list = watchers_in p }
 
 abbrev with_list : ℕ → List Watcher → Watching
 with_list n ws = record { capacity = n; list = ws }
 
--- ---- what always holds
+-- ---- the invariant
 
 pub watched_goes : (t u : Watching) (before after : ℕ) → AreWatched t.list before → Goes Any t u → NoneDueBefore after u.list
     → (0 < after → list_any (is_free u.list) u.list ≡ false) → AreWatched u.list after
@@ -41,7 +41,7 @@ watched_goes t u before after w goes due free = record {
 pub watched_anew : (t u : Watching) (before : ℕ) → AreWatched t.list before → Goes Any t u → AreWatched u.list 0
 watched_anew t u before w goes = watched_goes t u before 0 w goes (λ now h. absurd (omega arith)) (λ h. absurd (omega arith))
 
--- what was sent to few is sent as one message to few
+-- messages that were sent to few are one message that is sent to few
 sent_is_busy : (from : Endpoint) (id : ℕ) (w : Watcher) → is_sent_as from id w ≡ true → is_busy from w ≡ true
 sent_is_busy from id w e = at w.notification e
   where
@@ -82,7 +82,7 @@ is_full from token target p p2 none full =
     let count : length (watchers_in p) ≡ length p.list = length-map p.list (λ (q : Place). q.watcher) in
     (none_found (is_pair from token) (watchers_in p) none, omega (arith, full.0), ap seen full.1)
 
--- a new watcher is neither due nor free
+-- a new observer is neither due nor free
 free_beside : (ws : List Watcher) (n w : Watcher) → n.notification ≡ None → is_free (ws ++ n ∷ []) w ≡ is_free ws w
 free_beside ws n w idle = ap (λ b. w.is_marked && not b) (busy_beside ws)
   where
@@ -109,7 +109,7 @@ pub watched_if_room : (from : Endpoint) (token : List ℕ) (target : ℕ) (p p2 
 watched_if_room from token target p p2 true quiet w none added = watched_with from token target (seen p) (seen p2) 0 quiet w (adds from token target p p2 none added)
 watched_if_room from token target p p2 false quiet w none added = subst (λ (z : Places). AreWatched (watchers_in z) quiet) (sym added.1) w
 
--- ---- watchers that are taken away
+-- ---- observers that are taken away
 
 takes_away : (test : Watcher → Bool) (p p2 : Places) (slot : ℕ) → length (filter test (watchers_in p)) ≤ 1 → Finds test p (Some slot) → p2 ≡ without_slot slot p
     → seen p2 ≡ with_list p.capacity (filter (λ w. not (test w)) (watchers_in p))

@@ -1,5 +1,6 @@
--- What was done to watchers from the beginning, and what follows for a notification: its watcher registered, it says a value of
--- the target of that registration, and it goes after those that were sent for it before (RFC 7641, sections 3.4, 4.1 and 4.5).
+-- All calls from the beginning, and their consequences for a notification: its observer registered, it says a value of
+-- the target of that registration, and it goes after those that were sent for it before (RFC 7641, sections 3.4, 4.1
+-- and 4.5).
 use Rattle.std.specs.Prelude.{◌≡◌, ◌<◌, ◌≤◌, ◌+◌, ◌==◌, ◌^◌, ◌⊎◌, ◌&&◌, ℕ, Bool, true, List, [], ◌∷◌, ◌++◌, length, take, Option, Some, None, Contains, All, if◌then◌else◌}
 use Rattle.std.specs.Str.{bytes_eq}
 use Rattle.coap_msg.specs.declared.constants.TheConstants.{LONGEST_TOKEN}
@@ -23,7 +24,7 @@ pub record SentNotice : Type 0 where
   pub notice : Notice
   pub place : ℕ
 
--- Who registered, which targets got a new value, and what was sent, each in order.
+-- The registrations, the targets that got a new value, and the notifications that were sent, each in order.
 pub record Account : Type 0 where
   pub registered : List Registration
   pub emitted : List ℕ
@@ -44,7 +45,7 @@ place_after target count place (t ∷ emitted) = place_after target (count + 1) 
 abbrev pub last_place : ℕ → List ℕ → ℕ
 last_place target emitted = place_after target 0 0 emitted
 
--- ---- what goes on
+-- ---- additions
 
 abbrev pub with_registration : Registered → Registration → Account → Account
 with_registration (New n) r a = record a { registered = a.registered ++ r ∷ [] }
@@ -59,8 +60,8 @@ abbrev pub with_notice : Option Notice → Account → Account
 with_notice None a = a
 with_notice (Some n) a = record a { sent = a.sent ++ record { notice = n; place = last_place n.target a.emitted } ∷ [] }
 
--- What was done to a list without watchers, and what came of it: tokens and message IDs are those of messages (RFC 7252,
--- section 3).
+-- The account of the calls on a list that had no observers, and the list now: tokens and message IDs are those of
+-- messages (RFC 7252, section 3).
 pub data Did (capacity : ℕ) : Account → Watching → Type 0 where
   nothing : (t : Watching) → t ≡ none_watch capacity → Did capacity no_account t
   registered : (a : Account) (t u : Watching) (from : Endpoint) (token : List ℕ) (target : ℕ) (r : Registered) → Did capacity a t
@@ -73,7 +74,7 @@ pub data Did (capacity : ℕ) : Account → Watching → Type 0 where
   sent : (a : Account) (t u : Watching) (now id : ℕ) (n : Option Notice) → Did capacity a t → id < 2 ^ 16 → u.capacity ≡ t.capacity
       → Notifies now id t.list n u.list → Did capacity (with_notice n a) u
 
--- ---- what follows
+-- ---- consequences
 
 -- the token that a notification has
 abbrev pub token_of : Notice → List ℕ
@@ -83,12 +84,12 @@ token_of n = take n.token_length n.token
 abbrev pub one_if : Bool → ℕ
 one_if b = if b then 1 else 0
 
--- how often a pair registered
+-- the number of times that a pair registered
 abbrev pub registrations_of : Endpoint → List ℕ → List Registration → ℕ
 registrations_of from token [] = 0
 registrations_of from token (r ∷ rs) = registrations_of from token rs + one_if (is_same_endpoint from r.from && bytes_eq token r.token)
 
--- how many notifications were sent as new messages, each with the message ID that was handed in
+-- the number of notifications that were sent as new messages, each with the message ID that was handed in
 abbrev pub fresh_count : List SentNotice → ℕ
 fresh_count [] = 0
 fresh_count (s ∷ ss) = fresh_count ss + one_if s.notice.fresh
@@ -99,7 +100,7 @@ pub record GoesBefore (place : ℕ) (n : Notice) (s : SentNotice) : Type 0 where
   pub target : s.notice.target ≡ n.target
   pub order : ((s.notice.sequence ≡ n.sequence) × (s.place ≡ place)) ⊎ ((s.notice.sequence < n.sequence) × (s.place ≤ place))
 
--- A notification is one to a watcher that registered for its target, which has a value, and can be written.
+-- A notification is one to an observer that registered for its target, which has a value, and can be written.
 pub record IsToRegistered (a : Account) (n : Notice) : Type 0 where
   pub registered : Contains a.registered (record { from = n.to; token = token_of n; target = n.target })
   pub valued : 0 < last_place n.target a.emitted
@@ -112,7 +113,7 @@ pub record IsInOrder (a : Account) (n : Notice) : Type 0 where
   pub count : n.sequence ≤ fresh_count a.sent + one_if n.fresh
   pub after : All (λ s. is_for n.to (token_of n) s.notice ≡ true → GoesBefore (last_place n.target a.emitted) n s) a.sent
 
--- A notification goes to a watcher that registered for its target.
+-- A notification goes to an observer that registered for its target.
 abbrev pub NoticesGoToTheRegistered : Type 0
 NoticesGoToTheRegistered =
     (capacity : ℕ) (a : Account) (t : Watching) (now id : ℕ) (n : Notice) (us : List Watcher) → Did capacity a t → id < 2 ^ 16

@@ -1,4 +1,4 @@
--- Inside the crate: the bucket of a target, and that of an endpoint. What they are matters for speed alone.
+-- Inside the crate: the bucket of a target, and that of an endpoint. They matter for speed alone.
 use Rattle.std.specs.Prelude.{◌*◌, ◌/◌, ◌%◌, ◌^◌, ℕ, bit_xor}
 use Rattle.coap_msg.specs.declared.endpoint.Endpoint.{Endpoint}
 

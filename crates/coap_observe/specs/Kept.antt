@@ -1,7 +1,7 @@
--- Inside the crate: how the code keeps watchers. Each slot is free or has a watcher. A free one is in the list of the
--- free slots once, and in no other. One with a watcher is once in the list of all, in the order of registration, once
--- in the list of the bucket of its target, and once in the list of the bucket of its endpoint. The lists hold nothing
--- else.
+-- Inside the crate: the slots and lists in which the code keeps observers. Each slot is free or has an observer. A free
+-- one is in the list of the free slots once, and in no other. One with an observer is once in the list of all, in the
+-- order of registration, once in the list of the bucket of its target, and once in the list of the bucket of its
+-- endpoint. The lists hold nothing else.
 use Rattle.std.specs.Prelude.{◌≡◌, ◌+◌, ◌<◌, ◌==◌, ◌&&◌, ℕ, Bool, not, List, [], ◌∷◌, ◌++◌, length, map, find, slice_index_or, is_some, if◌then◌else◌, nat_lt}
 use Rattle.coap_msg.specs.declared.endpoint.Endpoint.{Endpoint}
 use Rattle.slot_lists.specs.Lists.{Lists, list_at, with_list, is_among, without}
@@ -11,25 +11,25 @@ use Rattle.coap_observe.specs.Buckets.{target_bucket, endpoint_bucket}
 use Rattle.coap_observe.specs.Watching.{newcomer, is_busy}
 use Rattle.coap_observe.specs.Places.{Place, Places}
 
--- what a slot holds that was never used
+-- the content of a slot that was never used
 abbrev pub no_watcher : Watcher
 no_watcher = newcomer (record { host = 0; port = 0 }) [] 0
 
--- what a slot holds
+-- the content of a slot
 abbrev pub watcher_at : List Watcher → ℕ → Watcher
 watcher_at watchers slot = slice_index_or watchers slot no_watcher
 
 abbrev pub place_at : List Watcher → ℕ → Place
 place_at watchers slot = record { slot = slot; watcher = watcher_at watchers slot }
 
--- the buckets of what it holds
+-- the buckets of its content
 abbrev pub target_bucket_at : ℕ → List Watcher → ℕ → ℕ
 target_bucket_at count watchers slot = target_bucket count (watcher_at watchers slot).target
 
 abbrev pub endpoint_bucket_at : ℕ → List Watcher → ℕ → ℕ
 endpoint_bucket_at count watchers slot = endpoint_bucket count (watcher_at watchers slot).from
 
--- how often a slot is in a list
+-- the number of times that a slot is in a list
 abbrev pub times_in : ℕ → List ℕ → ℕ
 times_in slot [] = 0
 times_in slot (other ∷ others) = (if slot == other then 1 else 0) + times_in slot others
@@ -38,7 +38,7 @@ times_in slot (other ∷ others) = (if slot == other then 1 else 0) + times_in s
 abbrev pub once_below : ℕ → ℕ → ℕ
 once_below n limit = if nat_lt n limit then 1 else 0
 
--- the watcher of a slot is changed, if the slot is in a list
+-- the observer of a slot is changed, if the slot is in a list
 abbrev pub changed_among : List ℕ → (Watcher → Watcher) → ℕ → Watcher → Watcher
 changed_among slots change slot w = if is_among slot slots then change w else w
 
@@ -47,22 +47,22 @@ abbrev pub AreDealt : (ℕ → ℕ) → List ℕ → List (List ℕ) → Type 0
 AreDealt number slots lists =
     (i s : ℕ) → i < length lists → times_in s (slice_index_or lists i []) ≡ (if number s == i then times_in s slots else 0)
 
--- those with a watcher in order of registration, and the free ones
+-- those with an observer in order of registration, and the free ones
 abbrev pub used_slots : Lists → List ℕ
 used_slots order = list_at 0 order
 
 abbrev pub free_slots : Lists → List ℕ
 free_slots order = list_at 1 order
 
--- what always holds
+-- the invariant
 pub record AreKept (capacity : ℕ) (watchers : List Watcher) (order targets endpoints : Lists) : Type 0 where
-  -- each slot is once among those with a watcher, or once among the free ones
+  -- each slot is once among those with an observer, or once among the free ones
   pub slots : (s : ℕ) → times_in s (used_slots order) + times_in s (free_slots order) ≡ once_below s capacity
   pub count : length (used_slots order) + length (free_slots order) ≡ capacity
-  -- each with a watcher is once in the list of its target's bucket and in that of its endpoint's
+  -- each with an observer is once in the list of its target's bucket and in that of its endpoint's
   pub by_target : AreDealt (target_bucket_at capacity watchers) (used_slots order) targets.lists
   pub by_endpoint : AreDealt (endpoint_bucket_at capacity watchers) (used_slots order) endpoints.lists
-  -- there are as many slots, and as many buckets, as there may be watchers
+  -- there are as many slots, and as many buckets, as there may be observers
   pub some : 0 < capacity
   pub watchers_count : length watchers ≡ capacity
   pub order_capacity : order.capacity ≡ capacity
@@ -75,21 +75,21 @@ pub record AreKept (capacity : ℕ) (watchers : List Watcher) (order targets end
 abbrev pub IsKept : Inside → Type 0
 IsKept x = AreKept x.capacity x.watchers.items x.order x.targets x.endpoints
 
--- what is seen
+-- the places that are seen
 abbrev pub places_in : ℕ → List Watcher → Lists → Places
 places_in capacity watchers order = record { capacity = capacity; list = map (place_at watchers) (used_slots order) }
 
 abbrev pub places_of : Inside → Places
 places_of x = places_in x.capacity x.watchers.items x.order
 
--- ---- what a walk finds in the list of a bucket
+-- ---- tests by a walk along the list of a bucket
 
 -- something that was sent to an endpoint isn't acknowledged
 abbrev pub is_busy_at : Lists → List Watcher → ℕ → Endpoint → Bool
 is_busy_at endpoints watchers count from =
     is_some (find (λ slot. is_busy from (watcher_at watchers slot)) (list_at (endpoint_bucket count from) endpoints))
 
--- a watcher has a value to be sent, and its endpoint acknowledged all
+-- an observer has a value to be sent, and its endpoint acknowledged all
 abbrev pub is_free_at : Lists → List Watcher → ℕ → Watcher → Bool
 is_free_at endpoints watchers count w = w.is_marked && not (is_busy_at endpoints watchers count w.from)
 

@@ -1,4 +1,4 @@
--- Laws of watchers, over all that is done to them from the beginning (RFC 7641, sections 3.6, 4.1 and 4.5).
+-- Laws of observers, over all calls from the beginning (RFC 7641, sections 3.6, 4.1 and 4.5).
 use Rattle.std.specs.Prelude.{◌≡◌, ◌≤◌, ◌+◌, ◌&&◌, ℕ, Bool, true, false, List, length, take, filter, find, Option, Some, None, option_map, ◌⊎◌, if◌then◌else◌}
 use Rattle.std.specs.List.{list_any}
 use Rattle.std.specs.Str.{bytes_eq}
@@ -12,7 +12,7 @@ use Rattle.coap_msg.specs.declared.transmission.TheConstants.{MOST_RETRANSMISSIO
 use Rattle.coap_observe.specs.Sending.{Sent}
 use Rattle.coap_observe.specs.Watching.{Watching, next_sequence, sequence_of, none_watch, is_from, is_pair, is_busy, is_sent_as, is_due, Registers, without_pair, with_emission, with_acknowledgement, with_reset, hopeless, GivesUp, IsNotice, Notifies}
 
--- What one call does to watchers, where a registration may be of each endpoint and token of which `May` holds.
+-- The effect of one call on observers, where a registration may be of each endpoint and token of which `May` holds.
 pub data Goes (May : Endpoint → List ℕ → Type 0) (t u : Watching) : Type 0 where
   registers : (from : Endpoint) (token : List ℕ) (target : ℕ) (r : Registered) → May from token → Registers from token target t r u
       → Goes May t u
@@ -26,12 +26,12 @@ pub data Goes (May : Endpoint → List ℕ → Type 0) (t u : Watching) : Type 0
 abbrev pub Any : Endpoint → List ℕ → Type 0
 Any from token = true ≡ true
 
--- what came of a list without watchers by such calls
+-- the lists to which such calls lead from one without observers
 pub data Comes (capacity : ℕ) : Watching → Type 0 where
   begins : (t : Watching) → t ≡ none_watch capacity → Comes capacity t
   goes_on : (t u : Watching) → Comes capacity t → Goes Any t u → Comes capacity u
 
--- how many watchers pass a test
+-- the number of observers that pass a test
 abbrev pub count : (Watcher → Bool) → List Watcher → ℕ
 count test ws = length (filter test ws)
 
@@ -39,11 +39,11 @@ count test ws = length (filter test ws)
 abbrev pub OneUnacknowledged : Type 0
 OneUnacknowledged = (capacity : ℕ) (t : Watching) → Comes capacity t → (from : Endpoint) → count (is_busy from) t.list ≤ 1
 
--- At most one watcher has a given endpoint and token (section 4.1).
+-- At most one observer has a given endpoint and token (section 4.1).
 abbrev pub PairsDiffer : Type 0
 PairsDiffer = (capacity : ℕ) (t : Watching) → Comes capacity t → (from : Endpoint) (token : List ℕ) → count (is_pair from token) t.list ≤ 1
 
--- An endpoint that is given up has no watcher left (section 4.5).
+-- An endpoint that is given up has no observer left (section 4.5).
 abbrev pub GivenUpLeavesNone : Type 0
 GivenUpLeavesNone =
     (now : ℕ) (from : Endpoint) (ws us : List Watcher) → hopeless now ws ≡ Some from → GivesUp now ws us → list_any (is_from from) us ≡ false
@@ -52,7 +52,7 @@ GivenUpLeavesNone =
 abbrev pub IsAbsent : Endpoint → List ℕ → Watching → Type 0
 IsAbsent from token t = list_any (is_pair from token) t.list ≡ false
 
--- A Reset takes the watcher away to which the notification went (section 3.6).
+-- A Reset takes the observer away to which the notification went (section 3.6).
 abbrev pub ResetForgets : Type 0
 ResetForgets =
     (capacity : ℕ) (t : Watching) (from : Endpoint) (id : ℕ) (w : Watcher) → Comes capacity t → find (is_sent_as from id) t.list ≡ Some w
@@ -64,7 +64,7 @@ AbsentStays =
     (from : Endpoint) (token : List ℕ) (t u : Watching) → IsAbsent from token t
     → Goes (λ end name. (is_same_endpoint from end && bytes_eq token name) ≡ false) t u → IsAbsent from token u
 
--- a notice goes to this endpoint with this token
+-- a notification goes to this endpoint with this token
 abbrev pub is_for : Endpoint → List ℕ → Notice → Bool
 is_for from token n = is_same_endpoint from n.to && bytes_eq token (take n.token_length n.token)
 
@@ -76,24 +76,24 @@ NothingForAbsent =
 
 -- ---- sequence numbers
 
--- the last sequence number of the watcher of an endpoint and a token, if there is one
+-- the last sequence number of the observer of an endpoint and a token, if there is one
 abbrev pub last_number : Endpoint → List ℕ → List Watcher → Option ℕ
 last_number from token ws = option_map (λ w. w.sequence) (find (is_pair from token) ws)
 
--- While a watcher stays, a call leaves its number or takes it to the next one.
+-- While an observer stays, a call leaves its number or takes it to the next one.
 abbrev pub NumbersRise : Type 0
 NumbersRise =
     (capacity : ℕ) (t u : Watching) (from : Endpoint) (token : List ℕ) (before after : ℕ) → Comes capacity t → Goes Any t u
     → last_number from token t.list ≡ Some before → last_number from token u.list ≡ Some after
     → (after ≡ before) ⊎ (after ≡ next_sequence before)
 
--- a registration of which there was no watcher
+-- a registration of which there was no observer
 abbrev pub is_new : Registered → Bool
 is_new (New n) = true
 is_new (Replaced n) = false
 is_new Full = false
 
--- A registration says the number that its watcher has from then on: 0 where that is new, and else the next one.
+-- A registration says the number that its observer has from then on: 0 where that is new, and else the next one.
 abbrev pub RegistrationsSayIt : Type 0
 RegistrationsSayIt =
     (from : Endpoint) (token : List ℕ) (target : ℕ) (t u : Watching) (r : Registered) (n : ℕ) → Registers from token target t r u
@@ -119,7 +119,7 @@ IsUnanswered from token t u (acknowledges end id is) = is_same_endpoint from end
 IsUnanswered from token t u (rejects end id is) = is_same_endpoint from end ≡ false
 IsUnanswered from token t u (sends now id n capacity is) = Unit {0}
 
--- how many messages a call sends to a pair
+-- the number of messages that a call sends to a pair
 abbrev pub count_of : Endpoint → List ℕ → Option Notice → ℕ
 count_of from token None = 0
 count_of from token (Some n) = if is_for from token n then 1 else 0
@@ -132,7 +132,7 @@ sendings_in from token t u (emits target is) = 0
 sendings_in from token t u (acknowledges end id is) = 0
 sendings_in from token t u (rejects end id is) = 0
 
--- What such calls lead to, and how many messages they send to the pair.
+-- The lists to which such calls lead, and the number of messages that they send to the pair.
 pub data StaysUnanswered (from : Endpoint) (token : List ℕ) (before : Watching) : ℕ → Watching → Type 0 where
   starts : (t : Watching) → t ≡ before → StaysUnanswered from token before 0 t
   continues : (n : ℕ) (t u : Watching) (goes : Goes Any t u) → StaysUnanswered from token before n t → IsUnanswered from token t u goes
@@ -152,8 +152,8 @@ SendsTheSame =
     → find (is_pair from token) t.list ≡ Some w → w.notification ≡ Some s → Notifies now id t.list (Some n) us → is_for from token n ≡ true
     → ((w.is_marked ≡ false) × IsNotice w s.id w.sequence false n) ⊎ ((w.is_marked ≡ true) × IsNotice w id (next_sequence w.sequence) true n)
 
--- And then all watchers of the endpoint are gone: where nothing is sent any more at a moment, those are whose notifications
--- are due.
+-- And then all observers of the endpoint are gone: where nothing is sent any more at a moment, an endpoint whose
+-- notification was due has no observer.
 abbrev pub DueAreGone : Type 0
 DueAreGone =
     (capacity now id : ℕ) (t : Watching) (from : Endpoint) (token : List ℕ) (w : Watcher) (us : List Watcher) → Comes capacity t

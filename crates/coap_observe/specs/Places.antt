@@ -1,4 +1,4 @@
--- Inside the crate: watchers in slots, and what is looked for among them.
+-- Inside the crate: observers in slots, and searches among them.
 use Rattle.std.specs.Prelude.{◌≡◌, ◌<◌, ◌≤◌, ◌==◌, ◌&&◌, ◌++◌, ◌∷◌, [], ℕ, Bool, true, false, not, List, length, map, filter, find, Option, Some, None, if◌then◌else◌}
 use Rattle.std.specs.List.{list_any}
 use Rattle.coap_msg.specs.declared.endpoint.Endpoint.{Endpoint}
@@ -9,21 +9,21 @@ use Rattle.coap_observe.specs.declared.notice.Notice.{Notice}
 use Rattle.coap_observe.specs.Sending.{Sent}
 use Rattle.coap_observe.specs.Watching.{is_from, is_sent_as, is_busy, next_sequence, resent, renewed, IsNotice}
 
--- a watcher and the slot that it is in
+-- an observer and the slot that it is in
 pub record Place : Type 0 where
   pub slot : ℕ
   pub watcher : Watcher
 
--- how many slots there are, and those with a watcher, in the order in which the watchers registered
+-- the number of slots, and those with an observer, in the order in which the observers registered
 pub record Places : Type 0 where
   pub capacity : ℕ
   pub list : List Place
 
--- nobody watches
+-- there is no observer
 abbrev pub none_placed : ℕ → Places
 none_placed capacity = record { capacity = capacity; list = [] }
 
--- the watchers alone
+-- the observers alone
 abbrev pub watchers_in : Places → List Watcher
 watchers_in t = map (λ p. p.watcher) t.list
 
@@ -31,61 +31,61 @@ watchers_in t = map (λ p. p.watcher) t.list
 abbrev pub IsAt : ℕ → Place → Places → Type 0
 IsAt slot p t = filter (λ q. slot == q.slot) t.list ≡ p ∷ []
 
--- a watcher is in this slot
+-- an observer is in this slot
 abbrev pub IsUsed : ℕ → Places → Type 0
 IsUsed slot t = (p : Place) × IsAt slot p t
 
--- ---- what calls do
+-- ---- the effects of calls
 
--- the watcher in a slot is changed
+-- the observer in a slot is changed
 abbrev pub changed_in : ℕ → (Watcher → Watcher) → Place → Place
 changed_in slot change p = if slot == p.slot then record p { watcher = change p.watcher } else p
 
 abbrev pub with_change : ℕ → (Watcher → Watcher) → Places → Places
 with_change slot change t = record t { list = map (changed_in slot change) t.list }
 
--- all watchers are changed
+-- all observers are changed
 abbrev pub changed_place : (Watcher → Watcher) → Place → Place
 changed_place change p = record p { watcher = change p.watcher }
 
 abbrev pub with_changes : (Watcher → Watcher) → Places → Places
 with_changes change t = record t { list = map (changed_place change) t.list }
 
--- a slot has no watcher any more
+-- a slot has no observer any more
 abbrev pub without_slot : ℕ → Places → Places
 without_slot slot t = record t { list = filter (λ p. not (slot == p.slot)) t.list }
 
--- a watcher is put behind the others, where there is room
+-- an observer is put behind the others, where there is room
 abbrev pub IsAdded : Watcher → Places → Bool → Places → Type 0
 IsAdded w t true u = (length t.list < t.capacity) × ((slot : ℕ) × (u ≡ record t { list = t.list ++ record { slot = slot; watcher = w } ∷ [] }))
 IsAdded w t false u = (t.capacity ≤ length t.list) × (u ≡ t)
 
--- ---- what is found
+-- ---- searches
 
--- the slot of a watcher that passes a test, if there is one
+-- the slot of an observer that passes a test, if there is one
 abbrev pub Finds : (Watcher → Bool) → Places → Option ℕ → Type 0
 Finds test t None = list_any test (watchers_in t) ≡ false
 Finds test t (Some slot) = (p : Place) × IsAt slot p t × (test p.watcher ≡ true)
 
--- the slot of the first watcher that passes a test, if there is one
+-- the slot of the first observer that passes a test, if there is one
 abbrev pub FindsFirst : (Watcher → Bool) → Places → Option ℕ → Type 0
 FindsFirst test t None = list_any test (watchers_in t) ≡ false
 FindsFirst test t (Some slot) = (p : Place) × IsAt slot p t × (find (λ q. test q.watcher) t.list ≡ Some p)
 
--- a watcher of an endpoint that is wanted
+-- an observer of an endpoint that is wanted
 abbrev pub is_wanted : Endpoint → Wanted → Watcher → Bool
 is_wanted from Any w = is_from from w
 is_wanted from (SentAs id) w = is_sent_as from id w
 is_wanted from Unacknowledged w = is_busy from w
 is_wanted from Marked w = is_from from w && w.is_marked
 
--- ---- what is sent
+-- ---- sending
 
--- a watcher to which something is sent again: the same message, or a new one where its target has a newer value
+-- an observer to which something is sent again: the same message, or a new one where its target has a newer value
 abbrev pub sent_once_more : ℕ → ℕ → Watcher → Watcher
 sent_once_more now id w = if w.is_marked then renewed now id w else resent now w
 
--- and what is sent
+-- and its notification
 pub record IsSentOnceMore (id : ℕ) (w : Watcher) (n : Notice) : Type 0 where
   pub newer : w.is_marked ≡ true → IsNotice w id (next_sequence w.sequence) true n
   pub same : w.is_marked ≡ false → (s : Sent) → w.notification ≡ Some s → IsNotice w s.id w.sequence false n

@@ -4,8 +4,8 @@ use Rattle.std.specs.Prelude.{◌+◌, ◌-◌, ◌*◌, ℕ, nat_le, Bool}
 use Rattle.coap_msg.specs.declared.transmission.TheConstants.{MOST_RETRANSMISSIONS}
 use Rattle.coap_msg.specs.Transmission.{first_timeout}
 
--- a notification that nothing acknowledged: its message ID, how often it was sent again, how long after the last
--- sending it is sent again, and when that was
+-- a notification that nothing acknowledged: its message ID, the number of times that it was sent again, the time from
+-- the last sending to the next, and the moment of the last
 pub record Sent : Type 0 where
   pub id : ℕ
   pub retransmissions : ℕ

@@ -1,9 +1,9 @@
--- How much may still be sent to watchers at a moment.
+-- The number of notifications that may still be sent to observers at a moment.
 use Rattle.std.specs.Prelude.{◌+◌, ℕ, List, [], ◌∷◌, if◌then◌else◌}
 use Rattle.coap_observe.specs.declared.watcher.Watcher.{Watcher}
 use Rattle.coap_observe.specs.Watching.{is_due}
 
--- to one: what it hasn't acknowledged, where that is due, and a new value, where it has one to be sent
+-- to one: its notification that isn't acknowledged, where that is due, and a new value, where it has one to be sent
 abbrev pub unsent_to : ℕ → Watcher → ℕ
 unsent_to now w = (if is_due now w then 1 else 0) + (if w.is_marked then 1 else 0)
 

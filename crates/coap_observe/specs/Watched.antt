@@ -1,4 +1,4 @@
--- Inside the crate: what the code knows of watchers beside where they are.
+-- Inside the crate: the invariant on observers beside their slots.
 use Rattle.std.specs.Prelude.{◌≡◌, ◌<◌, ◌≤◌, ℕ, false, List}
 use Rattle.std.specs.List.{list_any}
 use Rattle.coap_msg.specs.declared.endpoint.Endpoint.{Endpoint}
@@ -12,7 +12,7 @@ use Rattle.coap_observe.specs.Watching.{Watching, is_pair, is_busy, is_due, is_f
 abbrev pub NoneDueBefore : ℕ → List Watcher → Type 0
 NoneDueBefore moment ws = (now : ℕ) → now < moment → list_any (is_due now) ws ≡ false
 
--- What always holds: no two watchers have one endpoint and token, one message to an endpoint is unacknowledged at most,
+-- The invariant: no two observers have one endpoint and token, one message to an endpoint is unacknowledged at most,
 -- and nothing is to be sent before the moment that is kept.
 pub record AreWatched (ws : List Watcher) (quiet_until : ℕ) : Type 0 where
   pub pairs : (from : Endpoint) (token : List ℕ) → count (is_pair from token) ws ≤ 1
@@ -20,7 +20,7 @@ pub record AreWatched (ws : List Watcher) (quiet_until : ℕ) : Type 0 where
   pub none_due : NoneDueBefore quiet_until ws
   pub none_free : 0 < quiet_until → list_any (is_free ws) ws ≡ false
 
--- what is seen
+-- the observers that are seen
 abbrev pub watching_of : Inside → Watching
 watching_of x = record { capacity = x.slots.capacity; list = watchers_in x.slots }
 

@@ -1,4 +1,4 @@
--- Who observes what on a CoAP server, and what is sent to them (RFC 7641, sections 3 and 4).
+-- The observers of a CoAP server, and the notifications to them (RFC 7641, sections 3 and 4).
 use Rattle.std.specs.Prelude.{◌≡◌, ◌<◌, ◌≤◌, ◌+◌, ◌%◌, ◌^◌, ◌==◌, ◌&&◌, ◌++◌, ℕ, Bool, true, false, not, List, [], ◌∷◌, length, take, map, filter, find, Option, Some, None, is_some, option_map, option_and_then, if◌then◌else◌}
 use Rattle.std.specs.List.{list_any}
 use Rattle.std.specs.Str.{bytes_eq}
@@ -11,16 +11,16 @@ use Rattle.coap_observe.specs.declared.notice.Registered.{Registered}
 use Rattle.coap_observe.specs.declared.notice.Registered.TheVariants.{New, Replaced, Full}
 use Rattle.coap_observe.specs.declared.notice.Notice.{Notice}
 
--- the watchers, in the order in which they registered, and how many there may be
+-- the observers, in the order in which they registered, and the number that there may be
 pub record Watching : Type 0 where
   pub capacity : ℕ
   pub list : List Watcher
 
--- nobody watches
+-- there is no observer
 abbrev pub none_watch : ℕ → Watching
 none_watch capacity = record { capacity = capacity; list = [] }
 
--- ---- which watcher is meant
+-- ---- tests on observers
 
 -- one of an endpoint
 abbrev pub is_from : Endpoint → Watcher → Bool
@@ -52,20 +52,20 @@ is_of_target target w = w.target == target
 abbrev pub next_sequence : ℕ → ℕ
 next_sequence sequence = (sequence + 1) % 2 ^ 24
 
--- a watcher that registers now
+-- an observer that registers now
 abbrev pub newcomer : Endpoint → List ℕ → ℕ → Watcher
 newcomer from token target = record { from = from; token = token; target = target; sequence = 0; is_marked = false; notification = None }
 
--- one that registers anew: it keeps its place and takes the target, its sequence number goes on, and what was to be
--- sent or to be acknowledged is forgotten
+-- one that registers anew: it keeps its place and takes the target, its sequence number goes on, and it forgets the
+-- value to be sent and the notification to be acknowledged
 abbrev pub replaced : ℕ → Watcher → Watcher
 replaced target w = record w { target = target; sequence = next_sequence w.sequence; is_marked = false; notification = None }
 
--- the watchers that pass a test are changed, the others stay
+-- the observers that pass a test are changed, the others stay
 abbrev pub where_so : {X : Type 0} → (X → Bool) → (X → X) → X → X
 where_so test change w = if test w then change w else w
 
--- What a registration comes to: the watcher of this endpoint and token registers anew, or there is a new one, or no
+-- The outcome of a registration: the observer of this endpoint and token registers anew, or there is a new one, or no
 -- room for one.
 abbrev pub Registers : Endpoint → List ℕ → ℕ → Watching → Registered → Watching → Type 0
 Registers from token target t (Replaced sequence) u =
@@ -89,21 +89,21 @@ without test ws = filter (λ w. not (test w)) ws
 abbrev pub without_watchers : (Watcher → Bool) → Watching → Watching
 without_watchers test t = record t { list = without test t.list }
 
--- the watcher of this endpoint and token is gone (section 3.6)
+-- the observer of this endpoint and token is gone (section 3.6)
 abbrev pub without_pair : Endpoint → List ℕ → Watching → Watching
 without_pair from token t = without_watchers (is_pair from token) t
 
--- ---- what is to be sent
+-- ---- notifications to be sent
 
 -- its target has a value that wasn't sent to it yet
 abbrev pub marked : Watcher → Watcher
 marked w = record w { is_marked = true }
 
--- what was sent to it is acknowledged
+-- its notification is acknowledged
 abbrev pub acknowledged : Watcher → Watcher
 acknowledged w = record w { notification = None }
 
--- the watchers of a target that has a new value
+-- the observers of a target that has a new value
 abbrev pub with_emission : ℕ → Watching → Watching
 with_emission target t = record t { list = map (where_so (is_of_target target) marked) t.list }
 
@@ -115,7 +115,7 @@ with_acknowledgement from id t = record t { list = map (where_so (is_sent_as fro
 abbrev pub with_reset : Endpoint → ℕ → Watching → Watching
 with_reset from id t = without_watchers (is_sent_as from id) t
 
--- what was sent to it isn't acknowledged and its timeout is over
+-- its notification isn't acknowledged and its timeout is over
 abbrev pub is_late : ℕ → Option Sent → Bool
 is_late now None = false
 is_late now (Some n) = is_past now n
@@ -152,8 +152,8 @@ abbrev pub with_first : {X : Type 0} → (X → Bool) → (X → X) → List X �
 with_first test change [] = []
 with_first test change (w ∷ ws) = if test w then change w ∷ ws else w ∷ with_first test change ws
 
--- A notification to a watcher, with this message ID and sequence number; fresh, where the id is the one that was handed
--- in.
+-- A notification to an observer, with this message ID and sequence number; fresh, where the id is the one that was
+-- handed in.
 pub record IsNotice (w : Watcher) (id sequence : ℕ) (fresh : Bool) (n : Notice) : Type 0 where
   pub to : n.to ≡ w.from
   pub token : take n.token_length n.token ≡ w.token
@@ -168,23 +168,23 @@ pub record IsSendable (n : Notice) : Type 0 where
   pub token : n.token_length ≤ LONGEST_TOKEN
   pub sequence : n.sequence < 2 ^ 24
 
--- ---- the order in which it is sent
+-- ---- the order of sending
 
--- the endpoint of a watcher, if it is given up
+-- the endpoint of an observer, if it is given up
 abbrev pub given_up_endpoint : Watcher → Option Endpoint
 given_up_endpoint w = if is_given_up w then Some w.from else None
 
--- the endpoint of the first watcher whose notification is due, in the order of registration, if it is given up
+-- the endpoint of the first observer whose notification is due, in the order of registration, if it is given up
 abbrev pub hopeless : ℕ → List Watcher → Option Endpoint
 hopeless now ws = option_and_then given_up_endpoint (find (is_due now) ws)
 
--- All watchers of such an endpoint are removed (section 4.5), and the search begins again.
+-- All observers of such an endpoint are removed (section 4.5), and the search begins again.
 pub data GivesUp (now : ℕ) : List Watcher → List Watcher → Type 0 where
   nobody : (ws us : List Watcher) → hopeless now ws ≡ None → us ≡ ws → GivesUp now ws us
   endpoint : (from : Endpoint) (ws us : List Watcher) → hopeless now ws ≡ Some from
       → GivesUp now (without (is_from from) ws) us → GivesUp now ws us
 
--- At most one message is sent: to the first watcher whose notification is due, the same message again, or a new one
+-- At most one message is sent: to the first observer whose notification is due, the same message again, or a new one
 -- where its target has a newer value; where none is due, to the first that has a value to be sent and whose endpoint
 -- acknowledged all.
 pub data Sends (now id : ℕ) (ws : List Watcher) : Option Notice → List Watcher → Type 0 where

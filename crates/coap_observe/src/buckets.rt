@@ -1,6 +1,6 @@
-//! Which bucket a target belongs to, and which an endpoint. No contract of the watchers rests on which it is, only on
-//! its being a function. They are fixed functions, with no key, because no call hands in a secret: whoever can forge
-//! sources can choose them so that all fall into one bucket, whose list is then as long as that of all watchers.
+//! The buckets of targets and of endpoints. The contracts of the observers rest only on each being a function. Both are
+//! fixed functions, with no key, because no call hands in a secret: whoever can forge sources can choose them so that
+//! all fall into one bucket, whose list is then as long as that of all observers.
 
 ghost use Rattle.std.specs.Prelude.{◌≡◌, ◌<◌};
 ghost use Rattle.coap_observe.specs.Buckets.{scattered, endpoint_bucket, target_bucket};

@@ -1,4 +1,4 @@
-//! Which endpoints are given up (RFC 7641, section 4.5).
+//! The endpoints that are given up (RFC 7641, section 4.5).
 
 ghost use Rattle.std.specs.Prelude.{◌≡◌, ◌≤◌, None};
 ghost use Rattle.coap_observe.specs.Places.{watchers_in};
@@ -9,7 +9,8 @@ use crate::slots::WatcherSlots;
 use crate::watcher::Wanted;
 use coap_msg::Endpoint;
 
-/// Removes all watchers of each endpoint whose first due notification was sent again as often as it may be.
+/// Removes all observers of each endpoint whose first due notification was sent again as often as it may be. The search
+/// begins anew each time, since a removal changes the list.
 pub fn give_up(slots: &mut WatcherSlots, now: u64)
     ensures gives_up { GivesUp now (watchers_in slots.old) (watchers_in slots.new) }
     ensures less { unsent now (watchers_in slots.new) ≤ unsent now (watchers_in slots.old) }
@@ -24,7 +25,7 @@ pub fn give_up(slots: &mut WatcherSlots, now: u64)
     }
 }
 
-/// All watchers of an endpoint are removed.
+/// All observers of an endpoint are removed.
 fn remove_endpoint(slots: &mut WatcherSlots, from: Endpoint)
     ensures watchers { watchers_in slots.new ≡ without (is_from from) (watchers_in slots.old) }
     ensures capacity { slots.new.capacity ≡ slots.old.capacity }

@@ -1,4 +1,4 @@
-//! Laws of watchers, as contracts of functions that do nothing.
+//! Laws of observers, as contracts of functions that do nothing, since a law is proved only as a clause.
 
 ghost use Rattle.coap_observe.specs.Accounts.{NoticesGoToTheRegistered, NoticesAreInOrder};
 ghost use Rattle.coap_observe.specs.Laws.{OneUnacknowledged, PairsDiffer, GivenUpLeavesNone, ResetForgets, AbsentStays, NothingForAbsent, NumbersRise, RegistrationsSayIt, NoticesSayIt, AtMostFiveSendings, SendsTheSame, DueAreGone};
@@ -8,17 +8,17 @@ pub fn one_is_unacknowledged()
     ensures { OneUnacknowledged }
 {}
 
-/// At most one watcher has a given endpoint and token (RFC 7641, section 4.1).
+/// At most one observer has a given endpoint and token (RFC 7641, section 4.1).
 pub fn pairs_differ()
     ensures { PairsDiffer }
 {}
 
-/// An endpoint that is given up has no watcher left (RFC 7641, section 4.5).
+/// An endpoint that is given up has no observer left (RFC 7641, section 4.5).
 pub fn given_up_leaves_none()
     ensures { GivenUpLeavesNone }
 {}
 
-/// A Reset takes the watcher away, which stays away until it is registered again, and until then nothing is sent to it
+/// A Reset takes the observer away, which stays away until it is registered again, and until then nothing is sent to it
 /// (RFC 7641, section 3.6).
 pub fn reset_forgets()
     ensures forgets { ResetForgets }
@@ -26,7 +26,7 @@ pub fn reset_forgets()
     ensures nothing { NothingForAbsent }
 {}
 
-/// While a watcher stays, its sequence numbers rise by one, and registrations and notifications say them (RFC 7641,
+/// While an observer stays, its sequence numbers rise by one, and registrations and notifications say them (RFC 7641,
 /// section 3.4).
 pub fn numbers_rise()
     ensures rise { NumbersRise }
@@ -34,17 +34,17 @@ pub fn numbers_rise()
     ensures notices { NoticesSayIt }
 {}
 
-/// While nothing answers a notification, and its watcher isn't registered or cancelled anew, it is sent at most five
-/// times: each further time the same message, or a new one where its target has a newer value. Then all watchers of its
-/// endpoint are gone (RFC 7641, section 4.5).
+/// While nothing answers a notification, and its observer isn't registered or cancelled anew, it is sent at most five
+/// times: each further time the same message, or a new one where its target has a newer value. Then all observers of
+/// its endpoint are gone (RFC 7641, section 4.5).
 pub fn sent_five_times()
     ensures five { AtMostFiveSendings }
     ensures same { SendsTheSame }
     ensures gone { DueAreGone }
 {}
 
-/// A notification goes to a watcher that registered for its target. To one that registered once notifications go in the
-/// order of their numbers, and say the values of their target in order (RFC 7641, sections 3.4 and 4.5).
+/// A notification goes to an observer that registered for its target. To one that registered once notifications go in
+/// the order of their numbers, and say the values of their target in order (RFC 7641, sections 3.4 and 4.5).
 pub fn notices_are_in_order()
     ensures registered { NoticesGoToTheRegistered }
     ensures order { NoticesAreInOrder }

@@ -1,9 +1,10 @@
-//! The notification of a watcher that nothing acknowledged yet.
+//! The notification of an observer that nothing acknowledged yet.
 
 use coap_msg::{MOST_RETRANSMISSIONS, first_timeout};
 use std::marker::Model;
 
-/// A notification that was sent and isn't acknowledged (RFC 7252, section 4.2). Contracts see a `Sent`.
+/// A notification that was sent and isn't acknowledged (RFC 7252, section 4.2). Contracts see a `Sent`. A type of its
+/// own, so that no loop has to carry the bound of the timeout.
 #[derive(Drop)]
 pub struct Notification {
     id: u16,

@@ -2,10 +2,11 @@
 
 use std::marker::Model;
 
-/// How many sequence numbers there are: they have 24 bits (RFC 7641, section 3.4).
+/// The number of sequence numbers: they have 24 bits (RFC 7641, section 3.4).
 const SEQUENCES: u32 = 1 << 24;
 
-/// A sequence number, the value of Observe in a response. Contracts see the number.
+/// A sequence number, the value of Observe in a response. Contracts see the number. A type of its own, so that no
+/// clause or loop has to carry its bound.
 #[derive(Drop)]
 pub struct Sequence {
     number: u32,

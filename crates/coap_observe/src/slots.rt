@@ -1,4 +1,4 @@
-//! The watchers in their slots.
+//! The observers in their slots.
 
 use crate::buckets::{endpoint_bucket, target_bucket};
 use crate::notice::Notice;
@@ -12,10 +12,10 @@ use slot_lists::SlotLists;
 use std::alloc::Global;
 use std::marker::Model;
 
-/// Watchers in slots. Contracts see those that are there in order of registration, each with its slot (`Places` of
-/// specs/Places.antt). A slot is linked by its index: with a watcher it is in the list of all (`USED` of `order`), in
+/// Observers in slots. Contracts see those that are there in order of registration, each with its slot (`Places` of
+/// specs/Places.antt). A slot is linked by its index: with an observer it is in the list of all (`USED` of `order`), in
 /// that of its target's bucket and in that of its endpoint's; without one it is in the list of the free slots (`FREE`
-/// of `order`), and holds what it held last. So a call about one target or one endpoint looks at one bucket.
+/// of `order`), and keeps its last observer. So a call about one target or one endpoint looks at one bucket.
 #[derive(Drop)]
 pub struct WatcherSlots {
     capacity: u32,
@@ -44,7 +44,7 @@ impl WatcherSlots {
     ghost use Rattle.coap_observe.specs.Places.{Place, none_placed, watchers_in, IsAt, IsUsed, with_change, with_changes, without_slot, IsAdded, Finds, FindsFirst, is_wanted, sent_once_more, IsSentOnceMore};
     ghost use Rattle.coap_observe.specs.Watching.{newcomer, replaced, acknowledged, marked, notified, where_so, is_of_target, is_pair, is_due, is_free, is_given_up, next_sequence, IsNotice, IsSendable};
 
-    /// Slots for at most `capacity` watchers, all free. All memory is taken here.
+    /// Slots for at most `capacity` observers, all free. All memory is taken here.
     pub fn new(alloc: Global, capacity: u32) -> Result<WatcherSlots, NoMemory>
         requires { 1 ≤ capacity }
         ensures { IfOk result (λ t. t ≡ none_placed capacity) }
@@ -62,7 +62,7 @@ impl WatcherSlots {
         })
     }
 
-    /// The slot of the watcher of this endpoint and token.
+    /// The slot of the observer of this endpoint and token.
     pub fn pair_slot(&self, from: Endpoint, token: &[u8]) -> Option<u32>
         ensures { Finds (is_pair from token.now) self.now result }
     {
@@ -70,7 +70,7 @@ impl WatcherSlots {
         pair_slot(&self.endpoints, bucket, &self.watchers, from, token)
     }
 
-    /// The slot of a watcher of this endpoint that is wanted.
+    /// The slot of an observer of this endpoint that is wanted.
     pub fn wanted_slot(&self, from: Endpoint, wanted: Wanted) -> Option<u32>
         ensures { Finds (is_wanted from wanted) self.now result }
     {
@@ -78,21 +78,21 @@ impl WatcherSlots {
         wanted_slot(&self.endpoints, bucket, &self.watchers, from, wanted)
     }
 
-    /// Whether a watcher of this endpoint has a value to be sent.
+    /// Whether an observer of this endpoint has a value to be sent.
     pub fn has_marked(&self, from: Endpoint) -> bool
         ensures { result ≡ list_any (is_wanted from Wanted.Marked) (watchers_in self.now) }
     {
         self.wanted_slot(from, Wanted::Marked).is_some()
     }
 
-    /// The slot of the first watcher whose notification is due.
+    /// The slot of the first observer whose notification is due.
     pub fn due_slot(&self, now: u64) -> Option<u32>
         ensures { FindsFirst (is_due now) self.now result }
     {
         due_slot(&self.order, &self.watchers, now)
     }
 
-    /// The slot of the first watcher that has a value to be sent and whose endpoint acknowledged all.
+    /// The slot of the first observer that has a value to be sent and whose endpoint acknowledged all.
     pub fn free_slot(&self) -> Option<u32>
         ensures { FindsFirst (is_free (watchers_in self.now)) self.now result }
     {
@@ -106,7 +106,7 @@ impl WatcherSlots {
         next_due(&self.order, &self.watchers)
     }
 
-    /// The watcher in a slot.
+    /// The observer in a slot.
     pub fn watcher(&self, slot: u32) -> &Watcher
         requires { IsUsed slot self.now }
         ensures { (p : Place) → IsAt slot p self.now → result.now ≡ p.watcher }
@@ -114,7 +114,7 @@ impl WatcherSlots {
         &self.watchers[slot as usize]
     }
 
-    /// Puts a watcher of this endpoint and token, for a target, behind the others. Whether there was room.
+    /// Puts an observer of this endpoint and token, for a target, behind the others, and says whether there was room.
     pub fn add(&mut self, from: Endpoint, token: &[u8], target: Target) -> bool
         requires { length token.now ≤ LONGEST_TOKEN }
         ensures { IsAdded (newcomer from token.now target) self.old result self.new }
@@ -134,7 +134,7 @@ impl WatcherSlots {
         }
     }
 
-    /// Takes the watcher in a slot away.
+    /// Takes the observer in a slot away.
     pub fn remove(&mut self, slot: u32)
         requires { IsUsed slot self.old }
         ensures { self.new ≡ without_slot slot self.old }
@@ -149,7 +149,7 @@ impl WatcherSlots {
         self.order.push_back(FREE, slot);
     }
 
-    /// The watcher in a slot registers anew, for this target. It keeps its place among all, and moves to the list of
+    /// The observer in a slot registers anew, for this target. It keeps its place among all, and moves to the list of
     /// the target's bucket.
     pub fn replace(&mut self, slot: u32, target: Target)
         requires { IsUsed slot self.old }
@@ -161,15 +161,16 @@ impl WatcherSlots {
         move_slot(&mut self.targets, left, taken, slot);
     }
 
-    /// The watchers of a target are to be notified.
+    /// The observers of a target are to be notified.
     pub fn mark(&mut self, target: Target)
         ensures { self.new ≡ with_changes (where_so (is_of_target target) marked) self.old }
     {
         let bucket = target_bucket(target, self.capacity);
+        // A slice, since a vector that is lent loses its length in a loop.
         mark(&self.targets, bucket, self.watchers.as_mut_slice(), target);
     }
 
-    /// What was sent to the watcher in a slot is acknowledged.
+    /// The notification to the observer in a slot is acknowledged.
     pub fn acknowledge(&mut self, slot: u32)
         requires { IsUsed slot self.old }
         ensures { self.new ≡ with_change slot acknowledged self.old }
@@ -177,7 +178,8 @@ impl WatcherSlots {
         self.watchers[slot as usize].acknowledge();
     }
 
-    /// What was sent to the watcher in a slot is sent again now, or a new message with this message ID in place of it.
+    /// The notification to the observer in a slot is sent again now, or a new message with this message ID in place of
+    /// it.
     pub fn send_again(&mut self, slot: u32, now: u64, id: u16) -> Notice
         requires slot { IsUsed slot self.old }
         requires served { (p : Place) → IsAt slot p self.old → is_given_up p.watcher ≡ false }
@@ -189,7 +191,7 @@ impl WatcherSlots {
         self.watchers[slot as usize].send_again(now, id)
     }
 
-    /// The last value is sent to the watcher in a slot now, with this message ID.
+    /// The last value is sent to the observer in a slot now, with this message ID.
     pub fn send_first(&mut self, slot: u32, now: u64, id: u16) -> Notice
         requires { IsUsed slot self.old }
         ensures changed { self.new ≡ with_change slot (notified now id) self.old }
@@ -233,10 +235,11 @@ fn all_free(alloc: Global, capacity: u32) -> Result<SlotLists, NoMemory>
     Ok(order)
 }
 
-/// What slots hold that were never used.
+/// The contents of slots that were never used.
 fn no_watchers(alloc: Global, capacity: u32) -> Result<Vec<Watcher>, NoMemory>
     ensures { IfOk result (λ watchers. length watchers.items ≡ capacity) }
 {
+    // Pushed one by one, since an observer can't be copied.
     let mut watchers = Vec::with_capacity(alloc, capacity as usize)?;
     for _slot in 0..capacity {
         watchers.push(Watcher::new(Endpoint { host: 0, port: 0 }, &[], 0))?;

@@ -1,4 +1,4 @@
-//! Walks along lists of slots: what is looked for among watchers, and what is changed in them.
+//! Walks along lists of slots: searches among observers, and changes of them.
 
 ghost use Rattle.std.specs.Prelude.{◌≡◌, ◌≤◌, ◌<◌, false, ℕ, find, length};
 ghost use Rattle.std.specs.List.{list_any};
@@ -13,16 +13,16 @@ use coap_msg::Endpoint;
 use servient_base::Target;
 use slot_lists::SlotLists;
 
-/// The list, in the order of all, of the slots that have a watcher, in the order of registration.
+/// The list, in the order of all, of the slots that have an observer, in the order of registration.
 pub const USED: u32 = 0;
 
 /// The list beside it of the free slots.
 pub const FREE: u32 = 1;
 
-/// How many lists there are in the order of all.
+/// The number of lists in the order of all.
 pub const ORDERS: u32 = 2;
 
-/// The first slot of a list whose watcher is the one of this endpoint and token.
+/// The first slot of a list whose observer is the one of this endpoint and token.
 pub fn pair_slot(
     lists: &SlotLists,
     list: u32,
@@ -34,6 +34,7 @@ pub fn pair_slot(
     requires watchers { lists.now.capacity ≤ length watchers.now }
     ensures { result ≡ find (λ slot. is_pair from token.now (watcher_at watchers.now slot)) (list_at list lists.now) }
 {
+    // A loop and not an iterator, since each slot of a list names the one after it.
     let mut current = lists.first(list);
     while let Some(slot) = current {
         if watchers[slot as usize].is_pair(from, token) {
@@ -44,7 +45,7 @@ pub fn pair_slot(
     None
 }
 
-/// The first slot of a list whose watcher is of this endpoint and wanted.
+/// The first slot of a list whose observer is of this endpoint and wanted.
 pub fn wanted_slot(
     lists: &SlotLists,
     list: u32,
@@ -66,7 +67,7 @@ pub fn wanted_slot(
     None
 }
 
-/// The first slot in the order of registration whose watcher's notification is due.
+/// The first slot in the order of registration whose observer's notification is due.
 pub fn due_slot(order: &SlotLists, watchers: &[Watcher], now: u64) -> Option<u32>
     requires list { 0 < length order.now.lists }
     requires watchers { order.now.capacity ≤ length watchers.now }
@@ -82,7 +83,7 @@ pub fn due_slot(order: &SlotLists, watchers: &[Watcher], now: u64) -> Option<u32
     None
 }
 
-/// The first slot in the order of registration whose watcher has a value to be sent and whose endpoint acknowledged
+/// The first slot in the order of registration whose observer has a value to be sent and whose endpoint acknowledged
 /// all.
 pub fn free_slot(
     order: &SlotLists,
@@ -107,7 +108,7 @@ pub fn free_slot(
     None
 }
 
-/// Whether the watcher in a slot has a value to be sent and its endpoint acknowledged all.
+/// Whether the observer in a slot has a value to be sent and its endpoint acknowledged all.
 fn is_free(endpoints: &SlotLists, watchers: &[Watcher], slot: u32, count: u32) -> bool
     requires slot { slot < length watchers.now }
     requires some { 0 < count }
@@ -119,7 +120,7 @@ fn is_free(endpoints: &SlotLists, watchers: &[Watcher], slot: u32, count: u32) -
     watcher.is_marked && !is_busy(endpoints, watchers, watcher.from, count)
 }
 
-/// Whether something that was sent to an endpoint isn't acknowledged.
+/// Whether a notification to an endpoint isn't acknowledged.
 fn is_busy(endpoints: &SlotLists, watchers: &[Watcher], from: Endpoint, count: u32) -> bool
     requires some { 0 < count }
     requires buckets { length endpoints.now.lists ≡ count }
@@ -145,7 +146,7 @@ pub fn next_due(order: &SlotLists, watchers: &[Watcher]) -> u64
     moment
 }
 
-/// The watchers of a list are to be notified, if they observe this target.
+/// The observers of a list are to be notified, if they observe this target.
 pub fn mark(lists: &SlotLists, list: u32, watchers: &mut [Watcher], target: Target)
     requires list { list < length lists.now.lists }
     requires watchers { lists.now.capacity ≤ length watchers.old }

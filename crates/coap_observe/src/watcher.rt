@@ -1,4 +1,4 @@
-//! One watcher as it is kept.
+//! One observer as it is kept.
 
 use crate::notice::Notice;
 use crate::notification::Notification;
@@ -6,7 +6,7 @@ use crate::sequence::Sequence;
 use coap_msg::{BoundedBytes, Endpoint, LONGEST_TOKEN, is_same_endpoint};
 use servient_base::Target;
 
-/// Which watcher of an endpoint is looked for.
+/// The observer of an endpoint that is looked for.
 #[derive(Clone, Copy)]
 pub enum Wanted {
     /// Any.
@@ -22,17 +22,17 @@ pub enum Wanted {
 /// An observer of a target (RFC 7641, section 4.1).
 #[derive(Drop)]
 pub struct Watcher {
-    /// Where it registered from.
+    /// The endpoint from which it registered.
     pub from: Endpoint,
     /// The token of its registration.
     pub token: BoundedBytes<LONGEST_TOKEN>,
-    /// What it observes.
+    /// The target that it observes.
     pub target: Target,
     /// The last sequence number that was sent to it.
     pub sequence: Sequence,
     /// Whether its target has a value that wasn't sent to it yet.
     pub is_marked: bool,
-    /// What was sent to it and isn't acknowledged.
+    /// The notification that was sent to it and isn't acknowledged.
     pub notification: Option<Notification>,
 }
 
@@ -84,14 +84,14 @@ impl Watcher {
         }
     }
 
-    /// What was sent to it is acknowledged.
+    /// Its notification is acknowledged.
     pub fn acknowledge(&mut self)
         ensures { self.new ≡ acknowledged self.old }
     {
         self.notification = None;
     }
 
-    /// What was sent to it is sent again now, or a new message with this message ID in place of it, where its target has a
+    /// Its notification is sent again now, or a new message with this message ID in place of it, where its target has a
     /// newer value.
     pub fn send_again(&mut self, now: u64, id: u16) -> Notice
         requires { is_given_up self.old ≡ false }
@@ -123,7 +123,7 @@ impl Watcher {
         notice
     }
 
-    /// The message ID of what was sent to it; 0 where nothing was.
+    /// The message ID of its notification; 0 where there is none.
     fn last_id(&self) -> u16
         ensures { (s : Sent) → self.now.notification ≡ Some s → result ≡ s.id }
     {
@@ -133,7 +133,7 @@ impl Watcher {
         }
     }
 
-    /// What was sent to it is sent again now, if something was.
+    /// Its notification is sent again now, if there is one.
     fn resend(&mut self, now: u64)
         requires { is_given_up self.old ≡ false }
         ensures sent { self.new ≡ resent now self.old }
@@ -145,7 +145,7 @@ impl Watcher {
         };
     }
 
-    /// A new message with this message ID is sent now in place of what was sent to it, if something was.
+    /// A new message with this message ID is sent now in place of its notification, if there is one.
     fn renew(&mut self, now: u64, id: u16)
         requires { is_given_up self.old ≡ false }
         ensures sent { self.new ≡ renewed now id self.old }
@@ -169,7 +169,7 @@ impl Watcher {
         self.notification = Some(Notification::first(now, id));
     }
 
-    /// The notice of a message to it.
+    /// The notification that a message to it carries. The token is copied, so that the loan of the observer ends.
     fn notice(&self, id: u16, sequence: u32, fresh: bool) -> Notice
         requires { sequence < 2 ^ 24 }
         ensures notice { IsNotice self.now id sequence fresh result }
@@ -203,7 +203,7 @@ impl Watcher {
         is_same_endpoint(from, self.from) && token == self.token.as_bytes()
     }
 
-    /// Whether what was sent to it from this endpoint with this message ID isn't acknowledged.
+    /// Whether it is of this endpoint, and its notification with this message ID isn't acknowledged.
     pub fn is_sent_as(&self, from: Endpoint, id: u16) -> bool
         ensures { result ≡ is_sent_as from id self.now }
     {
@@ -213,7 +213,7 @@ impl Watcher {
         }
     }
 
-    /// Whether something was sent to this endpoint, by this watcher, that isn't acknowledged.
+    /// Whether it is of this endpoint, and its notification isn't acknowledged.
     pub fn is_busy(&self, from: Endpoint) -> bool
         ensures { result ≡ is_busy from self.now }
     {
@@ -232,7 +232,7 @@ impl Watcher {
         }
     }
 
-    /// Whether what was sent to it is to be sent again, or given up.
+    /// Whether its notification is to be sent again, or given up.
     pub fn is_due(&self, now: u64) -> bool
         ensures { result ≡ is_due now self.now }
     {
@@ -252,7 +252,7 @@ impl Watcher {
         }
     }
 
-    /// Its endpoint, if what was sent to it was sent again as often as it may be.
+    /// Its endpoint, if its notification was sent again as often as it may be.
     pub fn endpoint_given_up(&self) -> Option<Endpoint>
         ensures { result ≡ given_up_endpoint self.now }
     {

@@ -1,4 +1,4 @@
-//! The watchers, in the order in which they registered.
+//! The observers, in the order in which they registered.
 
 use crate::giving_up::give_up;
 use crate::notice::{Notice, Registered};
@@ -9,9 +9,9 @@ use servient_base::{NoMemory, Target};
 use std::alloc::Global;
 use std::marker::Model;
 
-/// The watchers of a server. Contracts see them in order of registration, and how many there may be (`Watching` of
-/// specs/Watching.antt). Beside where they are, the code keeps a moment before which nothing is to be sent: so
-/// `next_send` looks at them only from then on. 0 says that it must look.
+/// The observers of a server. Contracts see them in order of registration, and the number that there may be (`Watching`
+/// of specs/Watching.antt). The code also keeps a moment before which nothing is to be sent, so that `next_send` looks
+/// at them only from then on. 0 says that it must look.
 #[derive(Drop)]
 pub struct Watchers {
     slots: WatcherSlots,
@@ -36,7 +36,7 @@ impl Watchers {
     ghost use Rattle.coap_observe.specs.Unsent.{unsent};
     ghost use Rattle.coap_observe.specs.Watching.{none_watch, Registers, sequence_of, is_pair, is_sent_as, without_pair, with_emission, with_acknowledgement, with_reset, Notifies, IsSendable};
 
-    /// A list for at most `capacity` watchers. All its memory is taken here.
+    /// A list for at most `capacity` observers. All its memory is taken here.
     pub fn new(alloc: Global, capacity: u32) -> Result<Watchers, NoMemory>
         requires least { 1 ≤ capacity }
         requires most { capacity ≤ 1024 }
@@ -49,7 +49,7 @@ impl Watchers {
         })
     }
 
-    /// Registers the watcher of this endpoint and token for a target (RFC 7641, section 4.1).
+    /// Registers the observer of this endpoint and token for a target (RFC 7641, section 4.1).
     pub fn register(&mut self, from: Endpoint, token: &[u8], target: Target) -> Registered
         requires { length token.now ≤ LONGEST_TOKEN }
         ensures ok { Registers from token.now target self.old result self.new }
@@ -57,6 +57,7 @@ impl Watchers {
     {
         match self.slots.pair_slot(from, token) {
             Some(slot) => {
+                // Its notification is forgotten, so that others of its endpoint may now be sent to.
                 self.quiet_until = 0;
                 Registered::Replaced(register_again(&mut self.slots, slot, target))
             }
@@ -70,7 +71,7 @@ impl Watchers {
         }
     }
 
-    /// Ends the observation of this endpoint and token (RFC 7641, section 3.6). Whether there was one.
+    /// Ends the observation of this endpoint and token (RFC 7641, section 3.6), and says whether there was one.
     pub fn cancel(&mut self, from: Endpoint, token: &[u8]) -> bool
         ensures list { self.new ≡ without_pair from token.now self.old }
         ensures found { result ≡ list_any (is_pair from token.now) self.old.list }
@@ -85,7 +86,7 @@ impl Watchers {
         }
     }
 
-    /// A target has a new value: its watchers are to be notified.
+    /// A target has a new value: its observers are to be notified.
     pub fn emit(&mut self, target: Target)
         ensures { self.new ≡ with_emission target self.old }
     {
@@ -93,8 +94,8 @@ impl Watchers {
         self.slots.mark(target);
     }
 
-    /// An endpoint acknowledged the message with this ID (RFC 7252, section 4.2). Whether a notification to it had that
-    /// ID and wasn't acknowledged.
+    /// An endpoint acknowledged the message with this ID (RFC 7252, section 4.2). Says whether a notification to it had
+    /// that ID and wasn't acknowledged.
     pub fn acked(&mut self, from: Endpoint, id: u16) -> bool
         ensures list { self.new ≡ with_acknowledgement from id self.old }
         ensures found { result ≡ list_any (is_sent_as from id) self.old.list }
@@ -112,8 +113,8 @@ impl Watchers {
         }
     }
 
-    /// An endpoint rejected the message with this ID, which ends the observation (RFC 7641, section 3.6). Whether a
-    /// notification to it had that ID and wasn't acknowledged.
+    /// An endpoint rejected the message with this ID, which ends the observation (RFC 7641, section 3.6). Says whether
+    /// a notification to it had that ID and wasn't acknowledged.
     pub fn reset(&mut self, from: Endpoint, id: u16) -> bool
         ensures list { self.new ≡ with_reset from id self.old }
         ensures found { result ≡ list_any (is_sent_as from id) self.old.list }
@@ -128,8 +129,8 @@ impl Watchers {
         }
     }
 
-    /// What is to be sent now, with this message ID where it is no message that was sent before: one notification at
-    /// most, after which less is to be sent. A caller calls it until it returns None.
+    /// Gives the notification to be sent now, one at most, after which less is to be sent. It has this message ID where
+    /// it is no message that was sent before. A caller calls it until it returns None.
     pub fn next_send(&mut self, now: u64, id: u16) -> Option<Notice>
         ensures list { Notifies now id self.old.list result self.new.list }
         ensures capacity { self.new.capacity ≡ self.old.capacity }
@@ -158,7 +159,8 @@ ghost use Rattle.std.specs.Prelude.{◌≡◌, ◌<◌, ◌^◌};
 ghost use Rattle.coap_observe.specs.Places.{Place, IsAt, IsUsed, with_change};
 ghost use Rattle.coap_observe.specs.Watching.{next_sequence, replaced};
 
-/// The watcher in a slot registers anew, for this target. The sequence number that the response says.
+/// The observer in a slot registers anew, for this target; returns the sequence number that the response says. A
+/// function of its own, so that a wrong body is refused by this contract.
 fn register_again(slots: &mut WatcherSlots, slot: u32, target: Target) -> u32
     requires { IsUsed slot slots.old }
     ensures slots { slots.new ≡ with_change slot (replaced target) slots.old }

@@ -1,4 +1,4 @@
--- The first value of an option, and what comes after it.
+-- The first value of an option, and the values after it.
 use Rattle.std.proofs.Common.{◌≡◌, ◌∙◌, ℕ, Bool, true, false, Option, Some, None, List, [], ◌∷◌, ◌++◌, map, refl, sym, ap, append_assoc}
 use Rattle.std.specs.Prelude.{◌==◌, ◌||◌, slice_get, if◌then◌else◌}
 use Rattle.std.specs.List.{filter, list_any}
@@ -27,7 +27,7 @@ either_again : (a b c : Option (List ℕ)) → option_or a (option_or b c) ≡ o
 either_again None b c = refl
 either_again (Some x) b c = refl
 
--- what was found before, and then the first value of one more option or of those after it
+-- the value that was found before, and then the first value of one more option or of those after it
 pub first_more : (number : ℕ) (o : CoapOption) (os : List CoapOption) (found : Option (List ℕ))
     → option_or found (first_value number (o ∷ os)) ≡ option_or (option_or found (first_value number (o ∷ []))) (first_value number os)
 first_more number o os found =

@@ -1,4 +1,4 @@
--- What is noted of options, one after another.
+-- Notes on options, one after another.
 use Rattle.std.proofs.Common.{◌≡◌, ◌∙◌, ℕ, ◌||◌, Bool, true, false, List, [], ◌∷◌, ◌++◌, map, refl, sym, ap, cond, append_assoc}
 use Rattle.std.specs.Prelude.{◌==◌}
 use Rattle.std.specs.List.{filter, list_any}
@@ -63,7 +63,7 @@ known_none : (counts : Bool) → known_by counts [] ≡ no_tags
 known_none true = refl
 known_none false = refl
 
--- what is noted where nothing was
+-- the notes on all options, where there were none before
 pub nothing_before : (counts : Bool) (matched known : Tags) (after : Noted) (os : List CoapOption) → matched ≡ no_tags → known ≡ no_tags →
     after ≡ noted_then (record { stands = false; matched = matched; known = known; absent = false }) (noted_of counts os) → after ≡ noted_of counts os
 nothing_before counts matched known after os none none_too is =
@@ -85,7 +85,7 @@ none_under number isnt (o ∷ os) none =
 no_known : (counts : Bool) (values : List (List ℕ)) → values ≡ [] → known_by counts values ≡ no_tags
 no_known counts values none = ap (known_by counts) none ∙ known_none counts
 
--- what doesn't ask has none of the three numbers
+-- an option that has no condition has none of the three numbers
 no_numbers : (o : CoapOption) → asks_for_version o ≡ false → ((o.0 == IF_MATCH) ≡ false) × ((o.0 == ETAG) ≡ false) × ((o.0 == IF_NONE_MATCH) ≡ false)
 no_numbers o isnt =
     let first = or_parts (o.0 == IF_MATCH) ((o.0 == ETAG) || (o.0 == IF_NONE_MATCH)) isnt in

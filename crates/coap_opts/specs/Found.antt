@@ -1,4 +1,4 @@
--- Inside: what is found of the options of a request, one after another.
+-- Inside: the values that are found in the options of a request, one after another.
 use Rattle.std.specs.Prelude.{ℕ, List, ◌++◌, Bool, ◌==◌, ◌||◌, Option, Some, None, option_map, slice_get, if◌then◌else◌}
 use Rattle.std.specs.Borrow.{Bor}
 use Rattle.coap_msg.specs.declared.constants.TheConstants.{IF_MATCH, ETAG, IF_NONE_MATCH}
@@ -20,9 +20,9 @@ kept_first value = option_map (λ v. v.now) value
 abbrev pub asks_for_version : CoapOption → Bool
 asks_for_version o = (o.0 == IF_MATCH) || ((o.0 == ETAG) || (o.0 == IF_NONE_MATCH))
 
--- ---- what is noted of options, one after another
+-- ---- notes on options, one after another
 
--- what is noted of these options, where those of ETag count or don't
+-- the notes on these options, where those of ETag count or don't
 abbrev pub noted_of : Bool → List CoapOption → Noted
 noted_of counts os = record {
   stands = is_there (values_under IF_MATCH os);
@@ -31,11 +31,11 @@ noted_of counts os = record {
   absent = is_there (values_under IF_NONE_MATCH os);
 }
 
--- what some values say, and then others
+-- the tags of some values, and then of others
 abbrev pub both_tags : Tags → Tags → Tags
 both_tags one other = record { any = one.any || other.any; list = one.list ++ other.list }
 
--- what is noted of some options, and then of others
+-- the notes on some options, and then on others
 abbrev pub noted_then : Noted → Noted → Noted
 noted_then one other = record {
   stands = one.stands || other.stands;
@@ -44,6 +44,6 @@ noted_then one other = record {
   absent = one.absent || other.absent;
 }
 
--- what was noted asks this
+-- the conditions of these notes
 abbrev pub asked_by : Noted → Conditions
 asked_by noted = record { if_match = if noted.stands then Some noted.matched else None; known = noted.known; absent = noted.absent }

@@ -1,4 +1,4 @@
--- What contracts see of a request that `request_of` read (RFC 7252, section 5.8).
+-- The view that contracts have of a request that `request_of` read (RFC 7252, section 5.8).
 use Rattle.thing_ops.specs.Requests.{plain_request}
 use Rattle.coap_opts.specs.declared.ask.CoapAsk.{CoapAsk}
 use Rattle.coap_opts.specs.Reading.{PlainAsk}

@@ -1,5 +1,5 @@
--- What a CoAP request asks for, and what can be wrong with its options (RFC 7252, sections 5.4, 5.8 and 5.10; RFC 7959,
--- section 2).
+-- The meaning of a CoAP request, and the faults of its options (RFC 7252, sections 5.4, 5.8 and 5.10; RFC 7959, section
+-- 2).
 use Rattle.std.specs.Prelude.{◌≡◌, ◌⊎◌, ◌<◌, ◌^◌, ℕ, ◌%◌, List, [], ◌∷◌, map, Bool, true, false, not, length, ◌==◌, ◌&&◌, ◌||◌, Option, Some, None, option_and_then, slice_get, slice_index, nat_le, filter_map, is_some, IfSome, if◌then◌else◌}
 use Rattle.std.specs.List.{filter, list_any}
 use Rattle.coap_msg.specs.declared.constants.TheConstants.{IF_MATCH, ETAG, IF_NONE_MATCH, URI_PATH, BLOCK1, BLOCK2, PROXY_URI, PROXY_SCHEME, GET, POST, PUT, DELETE, JSON, TD_JSON}
@@ -21,7 +21,7 @@ use Rattle.coap_opts.specs.declared.fault.AskFault.TheVariants as fault
 use Rattle.coap_opts.specs.declared.known.Known.{Known}
 use Rattle.coap_opts.specs.Table.{observe, content_format, accept, block1, block2, has_length, may_stand}
 
--- ---- what is wrong
+-- ---- faults
 
 -- Proxy-Uri and Proxy-Scheme (section 5.10.2)
 abbrev pub is_proxy : ℕ → Bool
@@ -35,8 +35,8 @@ is_critical number = number % 2 == 1
 abbrev pub is_no_block : CoapOption → Bool
 is_no_block o = (o.0 == BLOCK1 || o.0 == BLOCK2) && not (is_some (block_of o.1))
 
--- What is wrong with an option after one of the number before. A critical one that may not be there is bad, an
--- elective one is ignored (section 5.4.1). One that may be there and is no block is wrong by that.
+-- The fault of an option after one of the number before. A critical one that may not be there is bad, an elective one
+-- is ignored (section 5.4.1). One that may be there and is no block is wrong by that.
 abbrev pub fault_of : Option ℕ → CoapOption → Option AskFault
 fault_of before o =
     if is_proxy o.0 then Some fault.Proxy
@@ -63,7 +63,7 @@ faults_of os = faults_after None os
 abbrev pub IsRefusal : List CoapOption → AskFault → Type 0
 IsRefusal os e = (slice_get (faults_of os) 0 ≡ Some e) ⊎ ((faults_of os ≡ []) × (e ≡ fault.NoMemory))
 
--- ---- what is asked
+-- ---- the meaning
 
 -- the values of all options of this number, in their order
 abbrev pub values_under : ℕ → List CoapOption → List (List ℕ)
@@ -82,7 +82,7 @@ number_under k os = option_and_then (number_within k) (slice_get (values_under k
 abbrev pub block_under : Known → List CoapOption → Option Block
 block_under k os = option_and_then block_of (slice_get (values_under k.number os) 0)
 
--- ---- what is asked of a version
+-- ---- conditions on a version
 
 -- The version that a value says: the number that its bytes are, of which there are 1 to 4, the first not 0. Any other
 -- value says none.
@@ -107,7 +107,7 @@ is_blank value = length value == 0
 abbrev pub tags_of : List (List ℕ) → Tags
 tags_of values = record { any = list_any is_blank values; list = filter_map version_of values }
 
--- what If-Match asks, where it is there
+-- the condition of If-Match, where it is there
 abbrev pub match_of : List (List ℕ) → Option Tags
 match_of values = if is_there values then Some (tags_of values) else None
 
@@ -134,7 +134,7 @@ registers (Some value) = value == 0
 abbrev pub conditions_of : ℕ → List CoapOption → Conditions
 conditions_of code os = conditions_by (code == GET && not (registers (number_under observe os))) os
 
--- ---- what is asked
+-- ---- the meaning
 
 -- the verb of a code of class 0 (section 12.1.1)
 abbrev pub verb_of : ℕ → Verb
@@ -151,20 +151,20 @@ format_of None = format.Absent
 format_of (Some number) =
     if number == JSON then format.Json else if number == TD_JSON then format.Td else format.Other
 
--- what is taken in an answer; where the request says nothing, both are (section 5.10.4)
+-- the formats that are taken in an answer; where the request says nothing, both are (section 5.10.4)
 abbrev pub accept_of : Option ℕ → Accept
 accept_of None = record { json = true; td = true }
 accept_of (Some number) = record { json = number == JSON; td = number == TD_JSON }
 
--- a request, the value of Observe, and which block of the request this is and which of the response is wanted, apart
--- from where they lie in memory
+-- a request, the value of Observe, the block of the request that this is and the block of the response that is wanted,
+-- apart from their places in memory
 pub record PlainAsk : Type 0 where
   pub request : PlainRequest
   pub observe : Option ℕ
   pub block1 : Option Block
   pub block2 : Option Block
 
--- What a message of class 0 asks for, if nothing is wrong with its options. Its path is the values of Uri-Path, and
+-- The meaning of a message of class 0, if nothing is wrong with its options. Its path is the values of Uri-Path, and
 -- Uri-Query isn't read.
 abbrev pub asked : CoapMessage → PlainAsk
 asked m = record {

@@ -1,4 +1,4 @@
-//! What a CoAP request asks for, read from its message.
+//! The meaning of a CoAP request, read from its message.
 
 ghost use Rattle.std.specs.Prelude.{◌≡◌, ◌<◌, ◌⊎◌, ◌==◌, ◌&&◌, not, [], ◌∷◌, Some, IfOk, IfErr, OnOk, slice_get};
 ghost use Rattle.coap_msg.specs.MessageOf.{message_of};
@@ -14,20 +14,20 @@ use coap_msg::{Block, DELETE, GET, JSON, Message, POST, PUT, TD_JSON};
 use std::alloc::Global;
 use thing_ops::{Accept, Format, Request, Segments, Verb};
 
-/// What a CoAP request asks for. It borrows the body from the message.
+/// The meaning of a CoAP request. It borrows the body from the message.
 #[derive(Debug, Drop)]
 pub struct CoapAsk<'a> {
-    /// The request; its query is empty.
+    /// The request; its query is empty, since Uri-Query isn't read.
     pub request: Request<'a>,
     /// The value of Observe (RFC 7641, section 2), where the request has it and it counts.
     pub observe: Option<u32>,
-    /// Which block of the request's body it has (Block1; RFC 7959, section 2.2), where its body comes in blocks.
+    /// The block of the request's body that it has (Block1; RFC 7959, section 2.2), where its body comes in blocks.
     pub block1: Option<Block>,
-    /// Which block of the response is wanted (Block2), where it says so.
+    /// The block of the response that is wanted (Block2), where it says one.
     pub block2: Option<Block>,
 }
 
-/// What a request asks for, or what is wrong with the first of its options that is.
+/// The meaning of a request, or the fault of the first option that has one.
 pub fn request_of<'a>(alloc: Global, message: &Message<'a>) -> Result<CoapAsk<'a>, AskFault>
     requires code { 0 < message.now.code }
     requires class { message.now.code < 32 }
@@ -56,7 +56,7 @@ pub fn request_of<'a>(alloc: Global, message: &Message<'a>) -> Result<CoapAsk<'a
     };
     note_all(&mut found, &message.options)?;
     let observe = numeric(OBSERVE, found.observe);
-    // The options ETag of a request that registers don't count.
+    // The options ETag of a request that registers don't count, since its notifications are new.
     let counts = message.code == GET && observe != Some(0);
     let conditions = read_conditions(alloc, &message.options, found.conditional, counts)?;
     let request = Request {
@@ -101,7 +101,7 @@ fn format(number: Option<u32>) -> Format
     }
 }
 
-/// What is taken in an answer.
+/// The formats that are taken in an answer.
 fn accept(number: Option<u32>) -> Accept
     ensures { result ≡ accept_of number }
 {

@@ -1,5 +1,5 @@
-//! What the options of a request ask of the version of a property (RFC 7252, sections 5.10.6 and 5.10.8). They are gone
-//! over once more only where one of them asks.
+//! The conditions of a request on the version of a property, by its options (RFC 7252, sections 5.10.6 and 5.10.8). The
+//! options are gone over once more only where one of them has a condition.
 
 ghost use Rattle.std.specs.Prelude.{◌≡◌, ◌≤◌, ◌<◌, ◌++◌, ◌∷◌, [], length, filter_map, ◌==◌, ◌&&◌, IfOk, OnOk, IfErr, true};
 ghost use Rattle.std.specs.List.{list_any};
@@ -10,20 +10,23 @@ use coap_msg::{ETAG, IF_MATCH, IF_NONE_MATCH, Options, number_of};
 use std::alloc::Global;
 use thing_ops::{Conditions, NoMemory, Tags, Versions};
 
-/// What was noted of some options.
+/// The most bytes of a version's tag.
+const LONGEST_TAG: usize = 4;
+
+/// Notes on some options.
 #[derive(Drop)]
 pub struct Noted {
     /// One of them is If-Match.
     pub stands: bool,
-    /// What the options If-Match say.
+    /// The versions that the options If-Match say.
     pub matched: Tags,
-    /// What the options ETag say.
+    /// The versions that the options ETag say.
     pub known: Tags,
     /// One of them is If-None-Match.
     pub absent: bool,
 }
 
-/// What options ask, where some do or none does, and where those of ETag count or don't.
+/// The conditions of options, where some have one or none has, and where those of ETag count or don't.
 #[tactic(auto, using(crate::proofs::NotedOptions::none_ask))]
 pub fn read_conditions(
     alloc: Global,
@@ -42,7 +45,7 @@ pub fn read_conditions(
     }
 }
 
-/// What options ask.
+/// The conditions of options.
 fn conditions_in(alloc: Global, options: &Options<'_>, counts: bool) -> Result<Conditions, NoMemory>
     ensures { IfOk result (λ c. c ≡ conditions_by counts options.now) }
 {
@@ -56,7 +59,7 @@ fn conditions_in(alloc: Global, options: &Options<'_>, counts: bool) -> Result<C
     Ok(asked_by(noted))
 }
 
-/// Notes what options say.
+/// Notes options. The notes are lent and not returned, since each early exit costs what a function owns.
 fn note_options(noted: &mut Noted, options: &Options<'_>, counts: bool) -> Result<(), NoMemory>
     ensures { OnOk result (noted.new ≡ noted_then noted.old (noted_of counts options.now)) }
 {
@@ -66,7 +69,7 @@ fn note_options(noted: &mut Noted, options: &Options<'_>, counts: bool) -> Resul
     Ok(())
 }
 
-/// Notes what one option says.
+/// Notes one option.
 fn note_option(noted: &mut Noted, number: u16, value: &[u8], counts: bool) -> Result<(), NoMemory>
     ensures { OnOk result (noted.new ≡ noted_then noted.old (noted_of counts ((number, value.now) ∷ []))) }
 {
@@ -82,7 +85,7 @@ fn note_option(noted: &mut Noted, number: u16, value: &[u8], counts: bool) -> Re
     }
 }
 
-/// Whether an option is an ETag that counts.
+/// Whether an option is an ETag that counts. A function of its own, since the proof looks through this test.
 fn is_counted(number: u16, counts: bool) -> bool
     ensures { result ≡ ((number == ETAG) && counts) }
 {
@@ -103,14 +106,14 @@ fn push_version(versions: &mut Versions, value: &[u8]) -> Result<(), NoMemory>
 fn version_of(value: &[u8]) -> Option<u32>
     ensures { result ≡ version_said value.now }
 {
-    if 1 <= value.len() && value.len() <= 4 && value[0] != 0 {
+    if 1 <= value.len() && value.len() <= LONGEST_TAG && value[0] != 0 {
         Some(number_of(value))
     } else {
         None
     }
 }
 
-/// What was noted asks this.
+/// The conditions of these notes.
 fn asked_by(noted: Noted) -> Conditions
     ensures { result ≡ asked_by_noted noted }
 {

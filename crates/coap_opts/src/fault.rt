@@ -1,9 +1,9 @@
-//! What can be wrong with the options of a request.
+//! The faults of the options of a request.
 
 use std::alloc::AllocError;
 use thiserror::Error;
 
-/// What is wrong with the options of a request, the first in their order.
+/// The first fault of the options of a request, in their order.
 #[derive(Clone, Copy, Debug, PartialEq, Eq, Drop, Error)]
 pub enum AskFault {
     /// A critical option of this number isn't known, has a value of a wrong length, or comes again (RFC 7252,
@@ -25,6 +25,7 @@ impl From<AllocError> for AskFault {
     ghost use Rattle.std.specs.Prelude.{◌≡◌};
     ghost use Rattle.coap_opts.specs.declared.fault.AskFault.TheVariants.{NoMemory};
 
+    // By hand, since this clause is to name the fault that `?` makes.
     ghost from_gives = { λ _ fault. fault ≡ NoMemory };
 
     fn from(_error: AllocError) -> AskFault {

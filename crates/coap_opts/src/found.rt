@@ -1,4 +1,4 @@
-//! What is found of the options of a request, in one go over them.
+//! The values of the options of a request, found in one go over them.
 
 ghost use Rattle.std.specs.Prelude.{◌≡◌, ◌++◌, [], ◌∷◌, false, OnOk, IfErr, Some};
 ghost use Rattle.std.specs.List.{list_any};
@@ -13,7 +13,7 @@ use coap_msg::{
 };
 use thing_ops::{NoMemory, Segments};
 
-/// What was found of the options so far: the path, and the first value of each number.
+/// The values that were found so far: the path, and the first value of each number.
 #[derive(Drop)]
 pub struct Found<'a> {
     /// The values of Uri-Path.
@@ -54,6 +54,7 @@ impl<'a> Found<'a> {
         ensures conditional { OnOk result (self.new.conditional ≡ (self.old.conditional || asks_for_version (number, value.now))) }
     {
         match number {
+            // Returned here, as this alone may run out of memory.
             URI_PATH => return self.path.push(value),
             OBSERVE => self.observe = self.observe.or(Some(value)),
             CONTENT_FORMAT => self.format = self.format.or(Some(value)),
@@ -67,8 +68,8 @@ impl<'a> Found<'a> {
     }
 }
 
-/// Finds all that counts of some options, where nothing is found yet, or says what is wrong with
-/// the first of them that is.
+/// Finds all values of some options that count, where nothing is found yet, or gives the fault of the first option that
+/// has one.
 pub fn note_all<'a>(found: &mut Found<'a>, options: &Options<'a>) -> Result<(), AskFault>
     requires path { found.old.path ≡ [] }
     requires observe { kept_first found.old.observe ≡ None }
@@ -91,6 +92,7 @@ pub fn note_all<'a>(found: &mut Found<'a>, options: &Options<'a>) -> Result<(), 
     for (number, value) in options.iter() {
         match option_fault(before, number, value) {
             Some(fault) => return Err(fault),
+            // A match and not `?`, since out of memory a wrong option is looked for first.
             None => match found.note(number, value) {
                 Ok(()) => before = Some(number),
                 Err(_) => return Err(refusal(options)),
@@ -100,7 +102,7 @@ pub fn note_all<'a>(found: &mut Found<'a>, options: &Options<'a>) -> Result<(), 
     Ok(())
 }
 
-/// Why a request with these options is refused out of memory.
+/// The refusal of a request with these options where memory is out.
 pub fn refusal(options: &Options<'_>) -> AskFault
     ensures { IsRefusal options.now result }
 {

@@ -1,4 +1,4 @@
-//! The options that are known, and what is wrong with others.
+//! The options that are known, and the faults of others.
 
 ghost use Rattle.std.specs.Prelude.{◌≡◌};
 ghost use Rattle.coap_opts.specs.Table.{stands_again, may_stand};
@@ -138,13 +138,14 @@ fn is_right(before: Option<u16>, number: u16, value: &[u8]) -> bool
     false
 }
 
-/// What is wrong with an option after one of this number.
+/// The fault of an option after one of this number.
 pub fn option_fault(before: Option<u16>, number: u16, value: &[u8]) -> Option<AskFault>
     ensures { result ≡ fault_of before (number, value.now) }
 {
     if number == PROXY_URI || number == PROXY_SCHEME {
         return Some(AskFault::Proxy);
     }
+    // Any other option of an even number is ignored, as it is elective (RFC 7252, section 5.4.1).
     if number % 2 == 1 && !is_right(before, number, value) {
         return Some(AskFault::BadOption(number));
     }

@@ -1,4 +1,4 @@
-//! A law of tags, as the contract of a function that does nothing.
+//! A law of tags, as the contract of a function that does nothing, since a law is proved only as a clause.
 
 ghost use Rattle.coap_opts.specs.Reading.{TagsAreReadAgain};
 

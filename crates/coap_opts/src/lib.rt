@@ -1,5 +1,5 @@
-//! What a CoAP request asks for: its options (RFC 7252, section 5.10, and RFC 7641, section 2) as a `Request`, which is
-//! what HTTP gives too, the value of Observe, and which blocks it has and wants (RFC 7959, section 2). `request_of`
+//! The meaning of a CoAP request: its options (RFC 7252, section 5.10, and RFC 7641, section 2) as a `Request`, which
+//! HTTP gives too, the value of Observe, and the blocks that it has and wants (RFC 7959, section 2). `request_of`
 //! judges the options in their order, by one table of those that are known. Nothing here sends or answers.
 //!
 //! ```text
@@ -12,8 +12,9 @@
 //! assert_eq!(ask.observe, Some(0));
 //! ```
 //!
-//! The contract in a sentence: the answer is `asked` of `specs/Reading.antt`, or else the first fault of
-//! `faults_of`, or is out of memory. The law: the tag of a version is read as that version. Memory is taken for the path and for the versions that a request names.
+//! The contract in a sentence: the answer is `asked` of `specs/Reading.antt`, or else the first fault of `faults_of`,
+//! or is out of memory. The law: the tag of a version is read as that version. Memory is taken for the path and for the
+//! versions that a request names.
 #![tactic(auto)]
 
 mod ask;

@@ -6,7 +6,7 @@ ghost use Rattle.coap_msg.specs.Numbers.{number_of};
 ghost use Rattle.coap_opts.specs.Reading.{number_within};
 
 use crate::known::Known;
-use coap_msg::{Block, number_of, read_block};
+use coap_msg::{Block, LONGEST_BLOCK, number_of, read_block};
 
 /// The number that the first value of this row's option says, if it is there and counts.
 pub fn numeric(row: Known, value: Option<&[u8]>) -> Option<u32>
@@ -30,14 +30,15 @@ pub fn block_of(value: &[u8]) -> Option<Block>
     ensures ok { result ≡ block_of value.now }
     ensures block { IfSome result IsBlock }
 {
-    if value.len() > 3 {
+    if value.len() > LONGEST_BLOCK {
         return None;
     }
     fits_24_bits(value);
     read_block(value)
 }
 
-/// For the proof: what up to three bytes say has 24 bits.
+/// For the proof: a number of up to three bytes has 24 bits. The bytes get names, since the range of one that is lent
+/// is known once it is read.
 fn fits_24_bits(value: &[u8])
     requires { length value.now ≤ 3 }
     ensures { number_of value.now < 2 ^ 24 }

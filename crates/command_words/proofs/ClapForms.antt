@@ -1,5 +1,5 @@
--- What `clap` makes of the words by the command of a form: no fault exactly where they give values,
--- and then the rows of those.
+-- `clap` reads the words by the command of a form: it finds no fault exactly where they give values, and then it has
+-- the rows of those.
 use Rattle.std.proofs.Common.{◌≡◌, ◌+◌, ◌∙◌, ◌&&◌, ◌||◌, ◌++◌, ℕ, Bool, true, false, not, List, [], ◌∷◌, map, length, Option, Some, None, is_some, refl, sym, ap, subst, arith, nat_lt, inl, inr}
 use Rattle.std.specs.Prelude.{fold}
 use Rattle.std.specs.List.{All, list_all, list_any}
@@ -247,7 +247,7 @@ first_value_at name (r ∷ rows) each = go (bytes_eq r.id name) refl r.values re
 
 -- ---- the answer of a parse
 
--- what matches hold
+-- the values that matches hold
 pub record Holds (form : Form) (words : List Text) (found : Found) : Type 0 where
   pub values : values_given form words ≡ Some (values_in found)
   pub each : EachHasValue found

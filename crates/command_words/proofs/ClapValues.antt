@@ -66,7 +66,7 @@ given_refused : (name value : Text) (places options : List Text) (o : Option Arg
 given_refused name value places options None has = refl
 given_refused name value places options (Some arguments) has = rw has refl
 
--- what waits for a value is an option
+-- the name that waits for a value is an option
 given_waiting : (name : Text) (words places options : List Text) → has_name name options ≡ false
     → given places options (arguments_after words (Some name)) ≡ None
 given_waiting name [] places options has = refl
@@ -230,7 +230,7 @@ again_fails rules options knows now position name (word ∷ words) places is_kno
         (fails_before rules options knows now (Some (name, word ∷ [])) position words now _ _ places (All-drop IsUtf8 1 (word ∷ words) text) hold
         (serves.settles word now ∙ repeats name now there))
 
--- Where the walk is: nothing waits for a value, or an option does that has none yet.
+-- The place of the walk: nothing waits for a value, or an option does that has none yet.
 pub data Stands (rules : List Rule) (now : List Row) (left : List Text) : Held → Waiting → Option Text → Type 0 where
   at_rest : (rows : List Row) (pending : Option (Text × List Text)) → Clean rules (held rows pending) now → Stands rules now left (held rows pending) idle None
   at_option : (name : Text) → has_name name left ≡ true → Stands rules now left (held now (Some (name, []))) (waits_for name) (Some name)

@@ -89,7 +89,7 @@ with_row rules w words rows name value (Some values) h = (h.0, h.1 ∙ append_as
 
 -- ---- one word
 
--- what is held has no fault, and gives these rows
+-- the value held has no fault, and gives these rows
 pub record Clean (rules : List Rule) (h : Held) (rows : List Row) : Type 0 where
   pub passes : settle_fault rules false h ≡ []
   pub comes_to : (settled rules h).rows ≡ rows

@@ -39,7 +39,7 @@ joined_none (Some b) = refl
 
 -- ---- no option awaits its value
 
--- what the words after a word come to, by what it leaves open
+-- the outcome of the words after a word, by the kind of that word
 abbrev pub JoinsAfter : List Word → List Word → Option Arguments → WordKind → Type 0
 JoinsAfter all words second what = (next : Option Word) → is_some next ≡ awaits_value what → arguments_after all next ≡ joined (arguments_after words next) second
 

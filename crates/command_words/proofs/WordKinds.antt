@@ -1,4 +1,4 @@
--- What `clap`'s lexer says of a word of each kind.
+-- The answers of `clap`'s lexer on a word of each kind.
 use Rattle.std.proofs.Common.{◌≡◌, ◌==◌, ℕ, Bool, true, false, List, [], ◌∷◌, Option, Some, None, refl, sym, ap, arith, is_some, ◌++◌}
 use Rattle.std.specs.Prelude.{slice_get}
 use Rattle.std.specs.Str.{IsUtf8, bytes_eq, chars}

@@ -44,7 +44,7 @@ number_at name least most values = option_and_then (number_between least most) (
 abbrev pub number_or : ℕ → List ℕ → ℕ → ℕ → Values → Option ℕ
 number_or default name least most values = option_map_or (number_between least most) (value_at name values) (Some default)
 
--- how many events a run may take
+-- the number of events that a run may take
 abbrev pub events_in : Values → Option ℕ
 events_in = number_or 100000 (codes "events") 1 1000000
 
@@ -95,7 +95,7 @@ replay_of values =
     with_part (events_in values) (λ events.
     Some (Replay script (value_at (codes "plan") values) events)))
 
--- after how many seconds without traffic a run ends; 0 is no such end
+-- the number of seconds without traffic after which a run ends; 0 is no such end
 abbrev pub idle_in : Values → Option ℕ
 idle_in = number_or 0 (codes "idle") 0 86400
 
@@ -119,7 +119,7 @@ endless_of values =
     with_part (idle_in values) (λ idle.
     Some (Serve plan Endless idle)))
 
--- what the words of `serve` mean, by the place of `--endless` among them
+-- the command that the words of `serve` mean, by the place of `--endless` among them
 abbrev pub serve_at : List (List ℕ) → Option ℕ → Option Command
 serve_at words None = option_and_then serve_of (values_given serve_form words)
 serve_at words (Some place) = option_and_then endless_of (values_around endless_form (take place words) (drop (place + 1) words))
@@ -173,7 +173,7 @@ discover_form = record { places = codes "server" ∷ []; options = [] }
 abbrev pub discover_of : Values → Option Command
 discover_of values = option_map (λ point. Discover point.0 point.1) (option_and_then point_in (value_at (codes "server") values))
 
--- what the words after the command's name mean
+-- the command that the words after the command's name mean
 abbrev pub meaning_by : Form → (Values → Option Command) → List (List ℕ) → Option Command
 meaning_by form command_of words = option_and_then command_of (values_given form words)
 
@@ -189,7 +189,7 @@ meaning_after name words =
     else if bytes_eq name (codes "discover") then meaning_by discover_form discover_of words
     else None
 
--- What the words of the command line mean, or that they mean nothing.
+-- The command that the words of the command line mean; none where they mean nothing.
 unfoldable pub meaning_of : List (List ℕ) → Option Command
 meaning_of [] = None
 meaning_of (name ∷ words) = meaning_after name words

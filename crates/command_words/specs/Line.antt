@@ -1,4 +1,4 @@
--- How `clap` is used: the command that is made for a form, and the values that its matches hold.
+-- The use of `clap`: the command that is made for a form, and the values that its matches hold.
 use Rattle.std.specs.Prelude.{◌≡◌, ◌&&◌, ◌++◌, not, nat_lt, ℕ, Bool, true, false, List, [], ◌∷◌, map, length, codes, Some}
 use Rattle.std.specs.Borrow.{Bor}
 use Rattle.std.specs.List.{All, list_all}

@@ -1,4 +1,4 @@
--- What the code's functions give, against the definitions.
+-- The results of the code's functions, against the definitions.
 use Rattle.std.specs.Prelude.{◌≡◌, ℕ, List, map, Option, Some, None, option_map, Result, Ok, Err}
 use Rattle.std.specs.Borrow.{Bor}
 use Rattle.command_words.specs.declared.fault.WordsFault.{WordsFault}

@@ -6,7 +6,7 @@ use Rattle.std.specs.Str.{bytes_eq}
 
 -- ---- words
 
--- what a word is, where the options haven't ended
+-- the kind of a word, where the options haven't ended
 pub data WordKind : Type 0 where
   -- `--`: the options end here
   options_end : WordKind
@@ -79,7 +79,7 @@ arguments_after (word ∷ words) waiting = from_either waiting word words (argum
 
 -- ---- values by name
 
--- what a command takes: its plain words, by name and in order, and the names of its options
+-- the words that a command takes: its plain words, by name and in order, and the names of its options
 pub record Form : Type 0 where
   pub places : List (List ℕ)
   pub options : List (List ℕ)

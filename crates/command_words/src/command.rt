@@ -57,7 +57,7 @@ pub enum Command {
     },
 }
 
-/// How many events a run of `serve` takes.
+/// The number of events that a run of `serve` takes.
 #[derive(Clone, Copy, Debug, Drop, PartialEq, Eq)]
 pub enum Budget {
     /// At most this many.
@@ -78,7 +78,7 @@ pub struct Consumption {
     pub scheme: Option<Scheme>,
     /// The file of the value to send.
     pub input: Option<Text>,
-    /// How many values to wait for, where a property is observed.
+    /// The number of values to wait for, where a property is observed.
     pub count: u32,
 }
 

@@ -1,9 +1,9 @@
-//! Why words are no command.
+//! The reasons for which words are no command.
 
 use servient_base::NoMemory;
 use thiserror::Error;
 
-/// Why `Command::read` gives no command.
+/// The reason for which `Command::read` gives no command.
 #[derive(Debug, Drop, Error)]
 pub enum WordsFault {
     /// The words are no command line of the grammar.

@@ -81,14 +81,14 @@ pub fn number_or(default: u32, word: Option<&str>, least: u32, most: u32) -> Res
     }
 }
 
-/// How many events a run may take.
+/// The number of events that a run may take.
 pub fn events(word: Option<&str>) -> Result<u32, WordsFault>
     ensures { Reads (option_map_or (number_between 1 1000000) (text_in word.entry) (Some 100000)) result }
 {
     number_or(100_000, word, 1, 1_000_000)
 }
 
-/// After how many seconds without traffic a run ends; 0 is no such end.
+/// The number of seconds without traffic after which a run ends; 0 is no such end.
 pub fn idle(word: Option<&str>) -> Result<u32, WordsFault>
     ensures { Reads (option_map_or (number_between 0 86400) (text_in word.entry) (Some 0)) result }
 {

@@ -1,8 +1,8 @@
 //! The values that the words after the name of a command give, read with `clap`.
 //!
 //! A plain word is a positional argument of the `clap` command, and an option is an argument with a long name. All of
-//! them are optional to `clap`: which of them a command needs is the command's own question, because it takes each
-//! value apart anyway.
+//! them are optional to `clap`: the command itself asks for those that it needs, because it takes each value apart
+//! anyway.
 
 ghost use Rattle.std.specs.Prelude.{◌≡◌, ◌++◌, [], List, map, IfOk, IsTrue};
 ghost use Rattle.clap.specs.Words.{Rule, app_of, new_rule};

@@ -1,4 +1,4 @@
--- What is seen of the whole of an operation.
+-- The trace of the whole of an operation.
 use Rattle.std.proofs.Common.{◌≡◌, ℕ, List, [], ◌∷◌, ◌++◌, Bor, Option, Some, None, refl, sym, ap, subst, ◌∙◌, append-nil}
 use Rattle.std.specs.Prelude.{option_map}
 use Rattle.wot_forms.specs.declared.scheme.Scheme.{Scheme}
@@ -120,7 +120,7 @@ find_memory o c input host n m q at_host finds =
 pub client_memory : (o : Purpose) (c : Chosen) (input : Option (List ℕ)) (s : Sight) → Shows (λ deeds. AsksByCoap o c input deeds ended.NoMemory) s s put.Done
 client_memory o c input s = record { deeds = []; holds = whole.client_memory refl refl; shows = shows_none s }
 
--- what is handed in is that with which it begins
+-- the value handed in is that with which it begins
 pub coap_same : (o : Purpose) (c : Chosen) (t : Transferred) (input : Option (List ℕ)) (r : Consumed) (a b : Sight) (p : Put) → t ≡ nothing_joined input → Shows (λ deeds. AsksByCoap o c t.input deeds r) a b p → Shows (λ deeds. AsksByCoap o c input deeds r) a b p
 coap_same o c t input r a b p is asks = record { deeds = asks.deeds; holds = subst (λ (x : Option (List ℕ)). AsksByCoap o c x asks.deeds r) (ap (λ (x : Transferred). x.input) is) asks.holds; shows = asks.shows }
 

@@ -1,4 +1,4 @@
--- Awaiting what comes of a request: what holds before each event, and how it ends.
+-- Awaiting the answer to a request: the invariant before each event, and the end.
 use Rattle.std.proofs.Common.{◌≡◌, ℕ, zero, suc, ◌+◌, ◌<◌, List, [], ◌∷◌, ◌++◌, Some, None, take, refl, subst, sym, ◌∙◌, ap, arith, append_assoc}
 use Rattle.servient_outside.specs.declared.net.EventWithBytes.{EventWithBytes}
 use Rattle.servient_outside.specs.declared.net.Event.{Event}
@@ -15,7 +15,7 @@ use Rattle.consuming.specs.Deeds.{Deed, happens, Sight, sight, ShowsDeeds, Shows
 use Rattle.consuming.specs.Waiting.{Hears, IsReady, Awaits, is_spent, is_broken, comes_to, goes_on}
 use Rattle.consuming.proofs.DeedLaws.{shows_none, shows_then, shows_net}
 
--- what holds before each event: what is done, and that whatever is left to be done makes the whole
+-- the invariant before each event: the deeds so far, and with any deeds that are left they make the whole
 pub record Progress (o : Purpose) (c : Chosen) (most : ℕ) (w v : Waiting) (a b : Sight) (count : ℕ) : Type 0 where
   pub done : List Deed
   pub shows : ShowsDeeds a b put.Done done

@@ -1,4 +1,4 @@
--- What was chosen can be asked.
+-- A request that was chosen can be asked.
 use Rattle.std.proofs.Common.{◌≡◌, ◌≢◌, ◌<◌, ◌≤◌, ℕ, List, [], ◌∷◌, length, Bool, true, false, Option, Some, None, sym, subst, arith, inl, inr}
 use Rattle.std.specs.Prelude.{codes, unwrap_or, if◌then◌else◌}
 use Rattle.std.specs.Str.{bytes_eq}

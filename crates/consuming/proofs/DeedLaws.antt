@@ -54,7 +54,7 @@ out_failed a b x y shows = record {
   fits = fits_no_longer a b x y shows.fits;
 }
 
--- what is printed of a payload is one text
+-- the printing of a payload is one text
 text_of_printed : (payload : List ℕ) → payload ≢ [] → text_in (printed payload) ≡ payload ++ codes "\n"
 text_of_printed [] some = absurd (some refl)
 text_of_printed (byte ∷ bytes) some = append-nil ((byte ∷ bytes) ++ codes "\n")
@@ -80,7 +80,7 @@ shows_then a b c p d e first second = record {
   out = subst (OutShows a.out c.out p) (sym (flat_map-append printed_in d e)) (out_then a.out b.out c.out p (text_in d) (text_in e) first.out second.out);
 }
 
--- what happened at the network alone
+-- the happenings at the network alone
 pub shows_net : (n m : NetSeen) (o : OutSeen) (hs : List Happening) → NetShows n m hs → ShowsDeeds (sight n o) (sight m o) put.Done (happen hs)
 shows_net n m o hs shows = record {
   net = subst (NetShows n m) (sym (happened_in-happen hs)) shows;

@@ -1,4 +1,4 @@
--- What one event does: the parts of it put together.
+-- The effect of one event: the parts of it put together.
 use Rattle.std.proofs.Common.{◌≡◌, ◌≤◌, ℕ, List, [], ◌∷◌, ◌++◌, take, length, Bool, true, false, Option, Some, None, refl, sym, ap, subst, ◌∙◌, arith, inl, inr}
 use Rattle.std.specs.Prelude.{cond, max, nat_le, slice_index_or, IfSome, IsNone, IsSome}
 use Rattle.coap_msg.specs.declared.block.Block.{Block}

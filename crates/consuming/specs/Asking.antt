@@ -1,5 +1,5 @@
--- What is asked over CoAP (RFC 7252, section 5.8; RFC 7641, section 3), and how what is handed in goes in blocks (RFC 7959,
--- section 2.5).
+-- Requests over CoAP (RFC 7252, section 5.8; RFC 7641, section 3), and the blocks of the value that is handed in (RFC
+-- 7959, section 2.5).
 use Rattle.std.specs.Prelude.{◌≢◌, ◌<◌, ◌+◌, ◌*◌, ℕ, nat_lt, length, List, [], take, drop, Bool, true, false, Option, Some, None, unwrap_or, option_map, IfSome, if◌then◌else◌}
 use Rattle.coap_msg.specs.declared.constants.TheConstants.{EMPTY, GET, POST, PUT, DELETE, JSON, LONGEST_PAYLOAD}
 use Rattle.coap_msg.specs.declared.block.Block.{Block}
@@ -18,7 +18,7 @@ use Rattle.consuming.specs.declared.blocks.Blocks.{Blocks}
 
 -- ## The blocks of a request
 
--- which block of what is handed in it has, and which of the answer it asks for
+-- the block that it has of the value handed in, and the one of the answer that it asks for
 abbrev pub blocks : Option Block → Option Block → Blocks
 blocks block1 block2 = record { block1 = block1; block2 = block2 }
 
@@ -36,7 +36,7 @@ input_block size number = record { number = number; more = nat_lt (1024 * (numbe
 abbrev pub first_block : ℕ → Option Block
 first_block size = if nat_lt LONGEST_PAYLOAD size then Some (input_block size 0) else None
 
--- how many bytes are handed in
+-- the number of bytes that are handed in
 abbrev pub input_size : Option (List ℕ) → ℕ
 input_size None = 0
 input_size (Some bytes) = length bytes
@@ -50,7 +50,7 @@ abbrev pub part_of : Option Block → List ℕ → List ℕ
 part_of None bytes = bytes
 part_of (Some b) bytes = take (block_size b) (drop (block_start b) bytes)
 
--- ## What is asked
+-- ## The request
 
 -- the code of a method; the others aren't chosen
 abbrev pub method_code : Verb → ℕ
@@ -67,7 +67,7 @@ abbrev pub observe_for : Bool → Option Bool
 observe_for true = Some true
 observe_for false = None
 
--- what is asked with these blocks, where this is handed in, if anything is: it is JSON
+-- the request with these blocks, where this value is handed in, if any is: it is JSON
 abbrev pub asking_for : Chosen → Option (List ℕ) → Blocks → Asking
 asking_for c input b = record {
   code = method_code c.verb;
@@ -87,7 +87,7 @@ cancelling c = record { code = GET; path = c.path; observe = Some false; format 
 abbrev pub IsChoice : Operation → Chosen → Type 0
 IsChoice o c = (only : Option Scheme) × IsChosen (json_of o.tree.now) (wanted o.op only) o.name.now c
 
--- What was chosen can be asked over CoAP: its method has a code, and its path can be sent.
+-- The chosen request can be sent over CoAP: its method has a code, and its path can be sent.
 pub record IsAskable (c : Chosen) : Type 0 where
   pub code : method_code c.verb ≢ 0
   pub class : method_code c.verb < 32

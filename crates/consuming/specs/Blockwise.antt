@@ -1,5 +1,5 @@
--- What is handed in and what comes back travel in blocks over CoAP (RFC 7959, sections 2.3 to 2.5 and 2.9.1): what follows an
--- answer, until one is whole.
+-- The value that is handed in and the one that comes back travel in blocks over CoAP (RFC 7959, sections 2.3 to 2.5 and
+-- 2.9.1): the steps after each answer, until one is whole.
 use Rattle.std.specs.Prelude.{◌+◌, ◌/◌, ◌^◌, ◌==◌, ◌&&◌, ◌||◌, not, ℕ, nat_lt, Bool, true, false, List, [], Option, Some, None, if◌then◌else◌}
 use Rattle.coap_msg.specs.declared.constants.TheConstants.{GET}
 use Rattle.coap_msg.specs.declared.block.Block.{Block}
@@ -12,7 +12,7 @@ use Rattle.consuming.specs.declared.block_transfer.NextStep.{NextStep}
 use Rattle.consuming.specs.declared.block_transfer.NextStep.TheVariants as step
 use Rattle.consuming.specs.Asking.{blocks, first_blocks, input_block, input_size, method_code}
 
--- how far both have travelled: what is handed in, the blocks of the last request, and what came back of the answer, joined
+-- the state of both: the value handed in, the blocks of the last request, and the answer as far as it came back, joined
 pub record Transferred : Type 0 where
   pub input : Option (List ℕ)
   pub asked : Blocks
@@ -22,7 +22,7 @@ pub record Transferred : Type 0 where
 abbrev pub nothing_joined : Option (List ℕ) → Transferred
 nothing_joined input = record { input = input; asked = first_blocks input; joined = [] }
 
--- ## What is handed in
+-- ## The value that is handed in
 
 -- 2.31, "Continue": a server took a block, and others may follow (section 2.9.1)
 abbrev pub go_on : ℕ
@@ -36,8 +36,8 @@ after_block size b =
     else if nat_lt (b.number + 1) (2 ^ 20) then step.Ask (blocks (Some (input_block size (b.number + 1))) None)
     else step.Long
 
--- what follows a 2.31 to a request with these blocks: it goes on where a block was sent and none asked for, and is else an
--- answer like any other
+-- the step after a 2.31 to a request with these blocks: it goes on where a block was sent and none asked for, and is
+-- else an answer like any other
 abbrev pub after_go_on : ℕ → Option Block → Option Block → Option NextStep
 after_go_on size (Some b) None = Some (after_block size b)
 after_go_on size (Some b) (Some asked) = None
@@ -46,20 +46,20 @@ after_go_on size None asked = None
 abbrev pub after_code : Transferred → ℕ → Option NextStep
 after_code t code = if code == go_on then after_go_on (input_size t.input) t.asked.block1 t.asked.block2 else None
 
--- ## What comes back
+-- ## The value that comes back
 
--- what comes back to a GET is joined, but not what is observed
+-- the answer to a GET is joined, but not the values that are observed
 abbrev pub is_joined : Chosen → Bool
 is_joined c = (method_code c.verb == GET) && not c.observe
 
--- what follows an answer of success that was joined so (section 2.4): the same is asked for the next block
+-- the step after an answer of success that was joined so (section 2.4): the same is asked for the next block
 abbrev pub after_joining : Blocks → Taken → NextStep
 after_joining asked answer.Broken = step.Malformed
 after_joining asked answer.TooLong = step.Long
 after_joining asked answer.Complete = step.Judge
 after_joining asked (answer.More b) = step.Ask (record asked { block2 = Some b })
 
--- what follows one that isn't joined: it is the whole, unless it says that it is a part
+-- the step after one that isn't joined: it is the whole, unless it says that it is a part
 abbrev pub after_one : Option Block → NextStep
 after_one None = step.Judge
 after_one (Some b) = if b.more || nat_lt 0 b.number then step.Malformed else step.Judge
@@ -68,8 +68,8 @@ after_one (Some b) = if b.more || nat_lt 0 b.number then step.Malformed else ste
 abbrev pub taken_so : Blocks → Taken × List ℕ → NextStep × List ℕ
 taken_so asked taken = (after_joining asked taken.0, taken.1)
 
--- What follows an answer that ends the sending, where answers are joined or aren't, and what came back then. One that is no
--- success is the whole.
+-- The step after an answer that ends the sending, where answers are joined or aren't, and the bytes that came back
+-- then. An answer that is no success is the whole.
 abbrev pub after_end : Bool → Transferred → ℕ → Option Block → List ℕ → NextStep × List ℕ
 after_end joins t code block2 payload =
     if not (code / 32 == 2) then (step.Judge, t.joined)
@@ -82,7 +82,7 @@ abbrev pub after_either : Option NextStep → Bool → Transferred → ℕ → O
 after_either (Some next) joins t code block2 payload = (next, t.joined)
 after_either None joins t code block2 payload = after_end joins t code block2 payload
 
--- What follows an answer with this code, this Block2 and this payload, and what came back then.
+-- The step after an answer with this code, this Block2 and this payload, and the bytes that came back then.
 abbrev pub after_answer : Bool → Transferred → ℕ → Option Block → List ℕ → NextStep × List ℕ
 after_answer joins t code block2 payload = after_either (after_code t code) joins t code block2 payload
 

@@ -1,6 +1,6 @@
--- A response over CoAP is awaited, or the values of a property that is observed (RFC 7252, section 5.2; RFC 7641, section
--- 3; RFC 7959, section 2): what each event does. What the client does with a datagram, and what falls due, are its own
--- steps (`Delivers`, `ComesDue`, `Asks` of `coap_client`).
+-- A response over CoAP is awaited, or the values of a property that is observed (RFC 7252, section 5.2; RFC 7641,
+-- section 3; RFC 7959, section 2): the effect of each event. Taking a datagram and sending what is due are steps of the
+-- client (`Delivers`, `ComesDue`, `Asks` of `coap_client`).
 use Rattle.std.specs.Prelude.{◌≡◌, ◌-◌, ℕ, max, nat_lt, List, [], ◌∷◌, ◌++◌, take, Bool, true, false, Option, Some, None, Result, Ok, Err}
 use Rattle.coap_msg.specs.declared.block.Block.{Block}
 use Rattle.coap_msg.specs.declared.endpoint.Endpoint.{Endpoint}
@@ -39,7 +39,7 @@ client_now w = at_moment w.moment w.client
 
 -- ## The requests
 
--- what is asked with these blocks
+-- the request with these blocks
 abbrev pub asking_with : Chosen → CoapWaiting → Blocks → Asking
 asking_with c w b = asking_for c w.transfer.input b
 
@@ -65,7 +65,7 @@ abbrev pub replied : Endpoint → Option ℕ → List ℕ → List Happening
 replied from None room = []
 replied from (Some n) room = did (act.Datagram from (take n room)) ∷ []
 
--- what happens where a datagram is delivered to the client, the news, and how it waits afterwards
+-- the happenings where a datagram is delivered to the client, the news, and the wait afterwards
 pub data DeliversNews (w : CoapWaiting) (from : Endpoint) (bytes : List ℕ) (happened : List Happening) (n : News) (v : CoapWaiting) : Type 0 where
   delivers : (told : Delivered) (old new : List ℕ) (s : State) → Delivers (client_now w) from bytes told old new s → n ≡ told.news
       → happened ≡ replied from told.reply new → v ≡ record w { client = s } → DeliversNews w from bytes happened n v
@@ -80,8 +80,8 @@ pub data AsksFurther (c : Chosen) (w : CoapWaiting) (b : Blocks) (happened : Lis
 abbrev pub with_joined : CoapWaiting → List ℕ → CoapWaiting
 with_joined w joined = record w { transfer = record w.transfer { joined = joined } }
 
--- What follows an answer with this code, Block2 and payload: a further request; or the answer is whole, and judged; or it isn't
--- one to what was asked; or it or what is handed in is too long.
+-- The outcome of an answer with this code, Block2 and payload: a further request follows; or the answer is whole, and
+-- judged; or it isn't one to this request; or it or the value that is handed in is too long.
 pub data FollowsAnswer (p : Purpose) (c : Chosen) (w : CoapWaiting) (code : ℕ) (block2 : Option Block) (payload : List ℕ) (deeds : List Deed) (r : Option Consumed) (v : CoapWaiting) : Type 0 where
   leads_on : (b : Blocks) (joined : List ℕ) (happened : List Happening) → after_answer (is_joined c) w.transfer code block2 payload ≡ (step.Ask b, joined)
       → AsksFurther c (with_joined w joined) b happened r v → deeds ≡ happen happened → FollowsAnswer p c w code block2 payload deeds r v
@@ -109,18 +109,18 @@ awaits_more left Unprinted = false
 awaits_more left Spent = false
 awaits_more left NoMemory = false
 
--- What follows a value of what is observed by which the operation would end so: further values are awaited, or it was the
--- last, or the operation ends by it.
+-- The outcome of an observed value by which the operation would end so: further values are awaited, or it was the last,
+-- or the operation ends by it.
 pub data AfterValue (c : Chosen) (w : CoapWaiting) (by_it : Consumed) (happened : List Happening) (r : Option Consumed) (v : CoapWaiting) : Type 0 where
   goes_on_observing : awaits_more w.left by_it ≡ true → happened ≡ [] → r ≡ None → v ≡ record w { left = w.left - 1 } → AfterValue c w by_it happened r v
   is_last : awaits_more w.left by_it ≡ false → Cancels c w happened → r ≡ Some by_it → AfterValue c w by_it happened r v
 
--- What follows a value of what is observed, which is judged as the payload of a 2.05 is: it is printed, or the operation ends.
+-- The outcome of an observed value, which is judged as the payload of a 2.05 is: it is printed, or the operation ends.
 pub data FollowsValue (p : Purpose) (c : Chosen) (w : CoapWaiting) (payload : List ℕ) (deeds : List Deed) (r : Option Consumed) (v : CoapWaiting) : Type 0 where
   is_judged : (said : Verdict) (by_it : Consumed) (first : List Deed) (more : List Happening) → AnswersAs p (status.Coap 69) payload said → Closes said first by_it
       → AfterValue c w by_it more r v → deeds ≡ first ++ happen more → FollowsValue p c w payload deeds r v
 
--- What is done by news, and how it ends by them, or how it waits afterwards. A value that is older than another that came
+-- The deeds on news, and the end that they bring, or the wait after them. A value that is older than another that came
 -- isn't looked at.
 abbrev pub Follows : Purpose → Chosen → CoapWaiting → News → List Deed → Option Consumed → CoapWaiting → Type 0
 Follows p c w news.Nothing deeds r v = (deeds ≡ []) × (r ≡ None) × (v ≡ w)
@@ -131,7 +131,7 @@ Follows p c w (news.Value payload) deeds r v = FollowsValue p c w payload.now de
 
 -- ## An event
 
--- what came is neither a datagram nor the end of all
+-- the event is neither a datagram nor the end of all
 abbrev pub is_passed_over : What → Bool
 is_passed_over (what.Opened d) = true
 is_passed_over (what.Bytes d count) = true
@@ -140,21 +140,21 @@ is_passed_over what.Tick = true
 is_passed_over (what.Datagram from count) = false
 is_passed_over what.Stop = false
 
--- what is done by what came
+-- the deeds on an event
 pub data Meets (p : Purpose) (c : Chosen) (w : CoapWaiting) (e : EventWithBytes) (deeds : List Deed) (r : Option Consumed) (v : CoapWaiting) : Type 0 where
   is_datagram : (from : Endpoint) (count : ℕ) (first : List Happening) (n : News) (u : CoapWaiting) (more : List Deed) → e.event.what ≡ what.Datagram from count
       → DeliversNews w from e.bytes first n u → Follows p c u n more r v → deeds ≡ happen first ++ more → Meets p c w e deeds r v
   is_stop : e.event.what ≡ what.Stop → deeds ≡ [] → r ≡ Some (Other outcome.Stopped) → Meets p c w e deeds r v
   is_another : is_passed_over e.event.what ≡ true → deeds ≡ [] → r ≡ None → v ≡ w → Meets p c w e deeds r v
 
--- what falls due: the request is sent again, or it has been awaited for too long
+-- an act falls due: the request is sent again, or it has been awaited for too long
 pub data FallsDue (w : CoapWaiting) (happened : List Happening) (r : Option Consumed) (v : CoapWaiting) : Type 0 where
   is_quiet : (old new : List ℕ) (s : State) → ComesDue (client_now w) due.Nothing old new s → happened ≡ [] → r ≡ None → v ≡ record w { client = s } → FallsDue w happened r v
   goes_again : (n : ℕ) (old new : List ℕ) (s : State) → ComesDue (client_now w) (due.Send n) old new s → happened ≡ did (act.Datagram w.peer (take n new)) ∷ [] → r ≡ None
       → v ≡ record w { client = s } → FallsDue w happened r v
   is_over : (old new : List ℕ) (s : State) → ComesDue (client_now w) due.TimedOut old new s → happened ≡ [] → r ≡ Some Silent → FallsDue w happened r v
 
--- What is done by an event: first by what came, and then, where that ended nothing, by what falls due once.
+-- The deeds on an event: first on the datagram that came, and then, where that ended nothing, on what falls due once.
 pub data MeetsAndGoesOn (p : Purpose) (c : Chosen) (w : CoapWaiting) (e : EventWithBytes) (deeds : List Deed) (r : Option Consumed) (v : CoapWaiting) : Type 0 where
   ends_by_it : (by_it : Consumed) → Meets p c w e deeds (Some by_it) v → r ≡ Some by_it → MeetsAndGoesOn p c w e deeds r v
   then_due : (first : List Deed) (u : CoapWaiting) (more : List Happening) → Meets p c w e first None u → FallsDue u more r v → deeds ≡ first ++ happen more → MeetsAndGoesOn p c w e deeds r v

@@ -38,7 +38,7 @@ use Rattle.consuming.specs.Waiting.{Awaits, most_events}
 
 -- ## Over HTTP
 
--- what is done where these bytes are to be sent, and how it ends
+-- the deeds where these bytes are to be sent, and the end
 pub data AsksByHttp (p : Purpose) (c : Chosen) (request : List ℕ) (deeds : List Deed) (r : Consumed) : Type 0 where
   not_dialled : deeds ≡ happen (dials_as c.host c.port dialled.Failed) → r ≡ Failed → AsksByHttp p c request deeds r
   dial_memory : deeds ≡ happen (dials_as c.host c.port dialled.NoMemory) → r ≡ NoMemory → AsksByHttp p c request deeds r
@@ -57,14 +57,14 @@ pub record IsFresh (p : Purpose) (input : Option (List ℕ)) (peer : Endpoint) (
   pub left : w.left ≡ count_of p
   pub transfer : w.transfer ≡ nothing_joined input
 
--- what is done where a peer is to be asked, and how it ends: the first request is sent, where it fits into a message
+-- the deeds where a peer is to be asked, and the end: the first request is sent, where it fits into a message
 pub data AsksPeer (p : Purpose) (c : Chosen) (w : CoapWaiting) (deeds : List Deed) (r : Consumed) : Type 0 where
   is_long : IsRefused (client_now w) w.peer (asking_with c w (first_blocks w.transfer.input)) client_fault.NoRoom → deeds ≡ [] → r ≡ Other outcome.Long
       → AsksPeer p c w deeds r
   is_asked : (first : List Happening) (v : CoapWaiting) (rest : List Deed) → IsSent c w (first_blocks w.transfer.input) first v
       → Awaits p c r most_events (Coap v) rest → deeds ≡ happen first ++ rest → AsksPeer p c w deeds r
 
--- what is done where a peer is to be found and asked, and this is handed in, if anything is, and how it ends
+-- the deeds where a peer is to be found and asked, and this value is handed in, if any is, and the end
 pub data AsksByCoap (p : Purpose) (c : Chosen) (input : Option (List ℕ)) (deeds : List Deed) (r : Consumed) : Type 0 where
   not_found : deeds ≡ happen (finds_as c.host c.port found.Failed) → r ≡ Failed → AsksByCoap p c input deeds r
   find_memory : deeds ≡ happen (finds_as c.host c.port found.NoMemory) → r ≡ NoMemory → AsksByCoap p c input deeds r
@@ -74,7 +74,7 @@ pub data AsksByCoap (p : Purpose) (c : Chosen) (input : Option (List ℕ)) (deed
 
 -- ## The whole
 
--- what is done by a form of this scheme, with this body where there is one, and how it ends
+-- the deeds by a form of this scheme, with this body where there is one, and the end
 abbrev pub AsksBy : Purpose → Chosen → Option (List ℕ) → Scheme → List Deed → Consumed → Type 0
 AsksBy p c body scheme.Http deeds r = AsksByHttp p c (request_bytes c body) deeds r
 AsksBy p c body scheme.Coap deeds r = AsksByCoap p c body deeds r
@@ -88,7 +88,7 @@ pub data AsksOrNot (p : Purpose) (c : Chosen) (body : Option (List ℕ)) (deeds 
 abbrev pub input_of : Operation → Option Json
 input_of o = option_map (λ v. json_of v.now) o.input
 
--- what is handed in is accepted
+-- the value handed in is accepted
 abbrev pub TakesInput : Operation → Type 0
 TakesInput o = AcceptsInput (json_of o.tree.now) o.op o.name.now (input_of o)
 
@@ -100,7 +100,7 @@ pub data Consumes (o : Operation) (c : Chosen) (deeds : List Deed) (r : Consumed
 
 -- ## Discovery
 
--- Asking a server for its links (RFC 6690, section 4): what is done, and how it ends. What is asked is a GET over CoAP, and the
+-- Asking a server for its links (RFC 6690, section 4): the deeds, and the end. The request is a GET over CoAP, and the
 -- lines of the Things to which the links lead are printed.
 pub data Discovers (c : Chosen) (deeds : List Deed) (r : Consumed) : Type 0 where
   discovery_memory : deeds ≡ [] → r ≡ NoMemory → Discovers c deeds r

@@ -1,4 +1,4 @@
--- What an operation does, in order, and what the outside shows of it.
+-- The deeds of an operation, in order, and the part of them that the outside shows.
 use Rattle.std.specs.Prelude.{ℕ, List, [], ◌∷◌, ◌++◌, codes, map, Option, Some, None}
 use Rattle.std.specs.List.{filter_map, flat_map}
 use Rattle.servient_outside.specs.declared.out.Put.{Put}
@@ -19,7 +19,7 @@ pub data Deed : Type 0 where
 abbrev pub happen : List Happening → List Deed
 happen = map (λ h. happens h)
 
--- what happens at the network among some deeds, in order
+-- the happenings at the network among some deeds, in order
 abbrev pub happening_in : Deed → Option Happening
 happening_in (happens h) = Some h
 happening_in (prints text) = None
@@ -35,19 +35,19 @@ printed_in (prints text) = text
 abbrev pub text_in : List Deed → List ℕ
 text_in = flat_map printed_in
 
--- what is printed of a payload: it and a line feed, and nothing of an empty one
+-- the printing of a payload: it and a line feed, and nothing of an empty one
 abbrev pub printed : List ℕ → List Deed
 printed [] = []
 printed (byte ∷ bytes) = prints ((byte ∷ bytes) ++ codes "\n") ∷ []
 
--- what is printed of lines: they as they are, and nothing where there are none
+-- the printing of lines: they as they are, and nothing where there are none
 abbrev pub printed_lines : List ℕ → List Deed
 printed_lines [] = []
 printed_lines (byte ∷ bytes) = prints (byte ∷ bytes) ∷ []
 
--- ## What the outside shows
+-- ## The view of the outside
 
--- what is seen of the network and of the output at one time
+-- the view of the network and of the output at one time
 pub record Sight : Type 0 where
   pub net : NetSeen
   pub out : OutSeen
@@ -55,8 +55,8 @@ pub record Sight : Type 0 where
 abbrev pub sight : NetSeen → OutSeen → Sight
 sight net out = record { net = net; out = out }
 
--- From one time to another these were done and nothing else. Where the output failed, a prefix of what was to be printed
--- was written.
+-- From one time to another these were done and nothing else. Where the output failed, a prefix of the text to be
+-- printed was written.
 pub record ShowsDeeds (before now : Sight) (p : Put) (deeds : List Deed) : Type 0 where
   pub net : NetShows before.net now.net (happened_in deeds)
   pub out : OutShows before.out now.out p (text_in deeds)

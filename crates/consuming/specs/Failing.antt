@@ -1,4 +1,4 @@
--- What it says of the network that an operation failed.
+-- The meaning of a failed operation for the network.
 use Rattle.std.specs.Prelude.{◌≤◌, List}
 use Rattle.servient_outside.specs.Network.{break_count}
 use Rattle.wot_consumer.specs.declared.chosen.Chosen.{Chosen}

@@ -14,7 +14,7 @@ use Rattle.consuming.specs.declared.http_waiting.HttpWaiting.{HttpWaiting}
 use Rattle.consuming.specs.Deeds.{Deed}
 use Rattle.consuming.specs.Answers.{ReceivesAs, Closes}
 
--- how many milliseconds after the request, which is sent at moment 0, a reply is awaited
+-- the number of milliseconds after the request, which is sent at moment 0, until which a reply is awaited
 abbrev pub deadline : ℕ
 deadline = 60000
 
@@ -39,7 +39,7 @@ after_event w e =
       received = w.received ++ bytes_on w.connection e.event.what e.bytes;
     }
 
--- what came is of this connection, or it is the end of all
+-- the event is of this connection, or it is the end of all
 abbrev pub concerns : ℕ → What → Bool
 concerns c (what.Bytes d count) = nat_eq d c
 concerns c (what.Ended d) = nat_eq d c
@@ -48,7 +48,7 @@ concerns c (what.Opened d) = false
 concerns c (what.Datagram from count) = false
 concerns c what.Tick = false
 
--- what it comes to by what came, where this is received on connection c, or that it goes on
+-- the verdict on the event, where these bytes are received on connection c, or that it goes on
 pub data Brings (p : Purpose) (c : ℕ) (received : List ℕ) (w : What) (r : Option Verdict) : Type 0 where
   bytes_came : (count : ℕ) → w ≡ what.Bytes c count → ReceivesAs p false received r → Brings p c received w r
   has_ended : w ≡ what.Ended c → ReceivesAs p true received r → Brings p c received w r
@@ -56,11 +56,11 @@ pub data Brings (p : Purpose) (c : ℕ) (received : List ℕ) (w : What) (r : Op
   is_of_another : concerns c w ≡ false → r ≡ None → Brings p c received w r
   event_memory : r ≡ Some verdict.NoMemory → Brings p c received w r
 
--- how it ends at this moment where nothing else ended it, or that it goes on
+-- the end at this moment where nothing else ended it, or that it goes on
 abbrev pub at_deadline : ℕ → Option Consumed
 at_deadline moment = if nat_le deadline moment then Some Silent else None
 
--- what is done by an event, after which it waits like this, and how it ends by it, or that it goes on
+-- the deeds on an event, after which it waits like this, and the end by it, or that it goes on
 pub data EndsOrWaits (p : Purpose) (w : HttpWaiting) (e : EventWithBytes) (deeds : List Deed) (r : Option Consumed) : Type 0 where
   has_come : (v : Verdict) (c : Consumed) → Brings p w.connection w.received e.event.what (Some v) → Closes v deeds c → r ≡ Some c → EndsOrWaits p w e deeds r
   has_not_come : Brings p w.connection w.received e.event.what None → deeds ≡ [] → r ≡ at_deadline w.moment → EndsOrWaits p w e deeds r

@@ -20,17 +20,17 @@ use Rattle.consuming.specs.CoapWaiting.{HearsByCoap}
 abbrev pub event_of : Came → EventWithBytes
 event_of came = record { event = came.event; bytes = came.bytes.now }
 
--- what holds of what is awaited before each event: the client's moment isn't later, and what was chosen can be asked
+-- the invariant of the wait before each event: the client's moment isn't later, and the chosen request can be sent
 abbrev pub IsReady : Chosen → Waiting → Type 0
 IsReady c (Http w) = ⊤
 IsReady c (Coap w) = (w.client.moment ≤ w.moment) × IsAskable c
 
--- what is done by an event, and how the operation ends by it, or that it goes on, and what is awaited then
+-- the deeds on an event, and the end of the operation by it, or that it goes on, and the wait then
 pub data Hears (p : Purpose) (c : Chosen) (w : Waiting) (e : EventWithBytes) (deeds : List Deed) (r : Option Consumed) (v : Waiting) : Type 0 where
   by_http : (x : HttpWaiting) → w ≡ Http x → HearsByHttp p x e deeds r → (r ≡ None → v ≡ Http (after_event x e)) → Hears p c w e deeds r v
   by_coap : (x y : CoapWaiting) → w ≡ Coap x → HearsByCoap p c x e deeds r y → v ≡ Coap y → Hears p c w e deeds r v
 
--- what is done, and how it ends, where at most n further events are taken
+-- the deeds, and the end, where at most n further events are taken
 pub data Awaits (p : Purpose) (c : Chosen) (r : Consumed) : ℕ → Waiting → List Deed → Type 0 where
   is_spent : (w : Waiting) (deeds : List Deed) → deeds ≡ [] → r ≡ Spent → Awaits p c r 0 w deeds
   is_broken : (n : ℕ) (w : Waiting) (deeds : List Deed) → deeds ≡ happens (broke next_event) ∷ [] → r ≡ Failed → Awaits p c r (suc n) w deeds
@@ -39,6 +39,6 @@ pub data Awaits (p : Purpose) (c : Chosen) (r : Consumed) : ℕ → Waiting → 
   goes_on : (n : ℕ) (w v : Waiting) (deeds : List Deed) (e : EventWithBytes) (by_it rest : List Deed) → Hears p c w e by_it None v
       → Awaits p c r n v rest → deeds ≡ happens (heard e) ∷ by_it ++ rest → Awaits p c r (suc n) w deeds
 
--- how many events are taken at most
+-- the most events that are taken
 abbrev pub most_events : ℕ
 most_events = 100000

@@ -1,4 +1,4 @@
-//! What an answer comes to, and the bytes of the connection on which it comes.
+//! The verdict on an answer, and the bytes of the connection on which it comes.
 
 ghost use Rattle.std.specs.Prelude.{◌≡◌, ◌/◌, IfOk, true};
 ghost use Rattle.consuming.specs.Answers.{is_success as is_success_status, AnswersAs, CanBeAsked, CanBeJudged, LinksComeTo, ReceivesAs, ScansAs, SucceedsAs, ValueComesTo};
@@ -11,7 +11,7 @@ use std::alloc::Global;
 use wot_consumer::things_in;
 use wot_json::Bytes;
 
-/// What an answer comes to.
+/// The verdict on an answer.
 #[derive(Debug, Drop)]
 pub enum Verdict {
     /// The operation is done, and this is the payload.
@@ -23,7 +23,7 @@ pub enum Verdict {
     NoMemory,
 }
 
-/// What these bytes of a connection come to, which has ended or goes on; nothing while the reply may still come.
+/// The verdict on these bytes of a connection, which has ended or goes on; nothing while the reply may still come.
 pub fn receive(task: &Task<'_>, received: &[u8], ended: bool) -> Option<Verdict>
     requires { CanBeJudged task.now.purpose }
     ensures { ReceivesAs task.now.purpose ended received.now result }
@@ -31,7 +31,7 @@ pub fn receive(task: &Task<'_>, received: &[u8], ended: bool) -> Option<Verdict>
     scanned(task, scan_reply(received, ended), ended)
 }
 
-/// What is scanned comes to this.
+/// The verdict on a scan.
 fn scanned(task: &Task<'_>, scan: ReplyScan<'_>, ended: bool) -> Option<Verdict>
     requires { CanBeJudged task.now.purpose }
     ensures { ScansAs task.now.purpose ended scan.entry result }
@@ -50,7 +50,7 @@ fn scanned(task: &Task<'_>, scan: ReplyScan<'_>, ended: bool) -> Option<Verdict>
     }
 }
 
-/// What an answer over HTTP with this status and this body comes to.
+/// The verdict on an answer over HTTP with this status and this body.
 fn answer(task: &Task<'_>, status: u16, body: &Body<'_>) -> Verdict
     requires { CanBeJudged task.now.purpose }
     ensures { AnswersAs task.now.purpose (Status.Http status) body.now result }
@@ -65,7 +65,7 @@ fn answer(task: &Task<'_>, status: u16, body: &Body<'_>) -> Verdict
     }
 }
 
-/// What an answer over CoAP with this code and this payload comes to.
+/// The verdict on an answer over CoAP with this code and this payload.
 pub fn answer_message(task: &Task<'_>, code: u8, payload: &[u8]) -> Verdict
     requires { CanBeJudged task.now.purpose }
     ensures { AnswersAs task.now.purpose (Status.Coap code) payload.now result }
@@ -99,7 +99,7 @@ fn payload_of(alloc: Global, body: &Body<'_>) -> Result<Bytes, NoMemory>
     Ok(Bytes::from_vec(room))
 }
 
-/// What an answer of success with this payload comes to.
+/// The verdict on an answer of success with this payload.
 fn judge(task: &Task<'_>, status: Status, payload: Bytes) -> Verdict
     requires { CanBeJudged task.now.purpose }
     ensures { SucceedsAs task.now.purpose status payload result }
@@ -110,7 +110,7 @@ fn judge(task: &Task<'_>, status: Status, payload: Bytes) -> Verdict
     }
 }
 
-/// What an answer of success to an operation comes to, with this payload.
+/// The verdict on an answer of success to an operation, with this payload.
 fn judge_value(alloc: Global, operation: &Operation<'_>, status: Status, payload: Bytes) -> Verdict
     requires { CanBeAsked operation.now }
     ensures { ValueComesTo operation.now status payload result }
@@ -123,7 +123,7 @@ fn judge_value(alloc: Global, operation: &Operation<'_>, status: Status, payload
     }
 }
 
-/// What the links of the server with this URL come to.
+/// The verdict on the links of the server with this URL.
 fn judge_links(alloc: Global, server: &str, payload: &[u8]) -> Verdict
     ensures { LinksComeTo server.now payload.now result }
 {

@@ -1,4 +1,4 @@
-//! The whole of an operation: what is handed in is judged, the request is sent, and what comes of it is awaited.
+//! The whole of an operation: the value that is handed in is judged, the request is sent, and its answer is awaited.
 
 ghost use Rattle.std.specs.Prelude.{◌≡◌, option_map};
 ghost use Rattle.wot_forms.specs.declared.scheme.Scheme.TheVariants as scheme;
@@ -24,7 +24,7 @@ use wot_json::{Bytes, Tree, text_of};
 /// Room for the bytes of one event.
 const BUFFER_BYTES: usize = 4096;
 
-/// How many events are taken at most.
+/// The most events that are taken.
 pub const MOST_EVENTS: u64 = 100_000;
 
 /// Does one operation by the form that was chosen for it, and prints each payload that it brings with a line feed after
@@ -48,6 +48,7 @@ pub fn consume<N: Net, O: Out>(
         purpose,
         chosen,
     };
+    // A match and not `?`, since the end of an operation is no `Result`.
     match judge_input(
         alloc,
         operation.tree,
@@ -136,7 +137,8 @@ fn send_by_http<N: Net, O: Out>(
     }
 }
 
-/// Takes events until one ends the wait, and at most this many.
+/// Takes events until one ends the wait, and at most this many. The wait is lent, because a function that owned it
+/// would give it up at each way out.
 pub fn await_end<N: Net, O: Out>(
     task: &Task<'_>,
     waiting: &mut Waiting,

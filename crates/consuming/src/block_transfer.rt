@@ -1,4 +1,4 @@
-//! What is handed in and what comes back, as far as they have travelled in blocks (RFC 7959).
+//! The value that is handed in and the one that comes back, as far as they have travelled in blocks (RFC 7959).
 
 ghost use Rattle.std.specs.Prelude.{◌≡◌, Some, option_map};
 ghost use Rattle.coap_msg.specs.declared.block.Block.{Block as BlockSeen};
@@ -24,25 +24,25 @@ const NUMBERS: u32 = 1 << 20;
 pub struct Answer<'a> {
     /// The code, its class in the upper three bits.
     pub code: u8,
-    /// Which block of its body it has.
+    /// The block of its body that it has.
     pub block2: Option<Block>,
     pub payload: &'a [u8],
 }
 
-/// What follows an answer.
+/// The next step after an answer.
 #[derive(Clone, Copy, Debug, PartialEq, Eq)]
 pub enum NextStep {
     /// A request with these blocks.
     Ask(Blocks),
     /// The answer is whole, and is judged.
     Judge,
-    /// It isn't what may follow what came before.
+    /// It may not follow the answers before it.
     Malformed,
-    /// It is too long, or what is handed in.
+    /// It or the value that is handed in is too long.
     Long,
 }
 
-/// What is handed in, the blocks of the last request, and what came back of the answer, joined.
+/// The value that is handed in, the blocks of the last request, and the parts of the answer that came back, joined.
 #[derive(Drop)]
 pub struct BlockTransfer {
     input: Option<Bytes>,
@@ -90,7 +90,7 @@ impl BlockTransfer {
         self.asked
     }
 
-    /// What is asked with these blocks.
+    /// The request with these blocks.
     pub fn ask<'a>(&'a self, chosen: &'a Chosen, blocks: Blocks) -> Ask<'a>
         requires { AreBlocks blocks }
         ensures { asking_of result ≡ asking_for chosen.now self.now.input blocks }
@@ -121,7 +121,7 @@ impl BlockTransfer {
         }
     }
 
-    /// What follows an answer with this code that may let the sending go on; none, where it ends that.
+    /// The next step after an answer with this code that may let the sending go on; none, where it ends that.
     fn after_code(&self, code: u8) -> Option<NextStep>
         ensures ok { result ≡ after_code self.now code }
         ensures blocks { (b : BlocksSeen) → result ≡ Some (NextStep.Ask b) → AreBlocks b }
@@ -159,7 +159,7 @@ impl BlockTransfer {
     }
 }
 
-/// How many bytes are handed in.
+/// The number of bytes that are handed in.
 fn input_size(input: &Option<Bytes>) -> usize
     ensures { result ≡ size_of_input input.now }
 {
@@ -179,7 +179,7 @@ pub fn slice_of(input: &Option<Bytes>) -> Option<&[u8]>
     }
 }
 
-/// What is asked with these blocks, where this is handed in, if anything is.
+/// The request with these blocks, where this value is handed in, if any is.
 fn ask_with<'a>(chosen: &'a Chosen, input: Option<&'a [u8]>, blocks: Blocks) -> Ask<'a>
     requires { AreBlocks blocks }
     ensures { asking_of result ≡ asking_for chosen.now (option_map (λ b. b.now) input.entry) blocks }
@@ -202,8 +202,8 @@ fn observe_for(observe: bool) -> Option<bool>
     if observe { Some(true) } else { None }
 }
 
-/// What follows a 2.31 to a request with these blocks, where so many bytes are handed in; none, where that is an answer like
-/// any other.
+/// The next step after a 2.31 to a request with these blocks, where so many bytes are handed in; none, where that is an
+/// answer like any other.
 fn after_go_on(size: usize, asked: Blocks) -> Option<NextStep>
     requires { AreBlocks asked }
     ensures ok { result ≡ step_after_go_on size asked.block1 asked.block2 }
@@ -215,7 +215,7 @@ fn after_go_on(size: usize, asked: Blocks) -> Option<NextStep>
     }
 }
 
-/// What follows a 2.31 to this block of what is handed in, which has so many bytes.
+/// The next step after a 2.31 to this block of the value that is handed in, which has so many bytes.
 fn after_block(size: usize, block: Block) -> NextStep
     requires { IsBlock block }
     ensures ok { result ≡ step_after_block size block }
@@ -234,7 +234,7 @@ fn after_block(size: usize, block: Block) -> NextStep
     })
 }
 
-/// What follows an answer that was taken so, to a request with these blocks.
+/// The next step after an answer that was taken so, to a request with these blocks.
 fn after_joining(asked: Blocks, taken: Taken) -> NextStep
     requires asked { AreBlocks asked }
     requires taken { (b : BlockSeen) → taken ≡ Taken.More b → IsBlock b }
@@ -252,7 +252,7 @@ fn after_joining(asked: Blocks, taken: Taken) -> NextStep
     }
 }
 
-/// What follows an answer that isn't joined, which says this of blocks.
+/// The next step after an answer that isn't joined, which says this of blocks.
 fn after_one(block2: Option<Block>) -> NextStep
     ensures ok { result ≡ step_after_one block2 }
     ensures blocks { (b : BlocksSeen) → result ≡ NextStep.Ask b → AreBlocks b }

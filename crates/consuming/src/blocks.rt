@@ -1,4 +1,5 @@
-//! The blocks of a request: which it has of what is handed in, and which it asks for of the answer (RFC 7959, section 2).
+//! The blocks of a request: the one that it has of the value that is handed in, and the one of the answer that it asks
+//! for (RFC 7959, section 2).
 
 ghost use Rattle.std.specs.Prelude.{◌≡◌, ◌<◌, ◌^◌, drop, take, IfSome, None};
 ghost use Rattle.coap_msg.specs.Blocks.{IsBlock, block_size, block_start};
@@ -15,9 +16,9 @@ const INPUT_SIZE: usize = 1024;
 /// The blocks that a request says.
 #[derive(Clone, Copy, Debug, PartialEq, Eq)]
 pub struct Blocks {
-    /// Which block it has of what is handed in (Block1); none, where it has all of that.
+    /// The block that it has of the value that is handed in (Block1); none, where it has all of that.
     pub block1: Option<Block>,
-    /// Which block of the answer it asks for (Block2); none, where that is the first.
+    /// The block of the answer that it asks for (Block2); none, where that is the first.
     pub block2: Option<Block>,
 }
 

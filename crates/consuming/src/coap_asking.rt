@@ -1,4 +1,4 @@
-//! A request over CoAP: its server is looked up, and what is chosen is asked there (RFC 7252, section 5).
+//! A request over CoAP: its server is looked up, and the request is sent there (RFC 7252, section 5).
 
 ghost use Rattle.std.specs.Prelude.{◌≡◌};
 ghost use Rattle.coap_client.specs.Exchange.{IsNew};

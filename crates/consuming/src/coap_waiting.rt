@@ -1,4 +1,4 @@
-//! A request was sent over CoAP, and its response, or the values of what is observed, are awaited.
+//! A request was sent over CoAP, and its response, or the values of an observed property, are awaited.
 
 ghost use Rattle.std.specs.Prelude.{◌≡◌, ◌≤◌, length, IfSome};
 ghost use Rattle.coap_msg.specs.Blocks.{IsBlock};
@@ -23,17 +23,17 @@ use coap_msg::{CONTENT, Endpoint, GET, LONGEST_MESSAGE};
 use servient_outside::{Net, Out, What};
 use wot_consumer::Chosen;
 
-/// What is awaited.
+/// The state of waiting for an answer.
 #[derive(Drop)]
 pub struct CoapWaiting {
     pub client: Client,
     /// The greatest moment so far, in milliseconds.
     pub moment: u64,
-    /// Where the request was sent.
+    /// The endpoint to which the request was sent.
     pub peer: Endpoint,
-    /// How many values are still to come, where a property is observed.
+    /// The number of values that are still to come, where a property is observed.
     pub left: u32,
-    /// What is handed in, and what came back so far.
+    /// The value that is handed in, and the part of the answer that came back so far.
     pub transfer: BlockTransfer,
 }
 
@@ -93,6 +93,7 @@ impl CoapWaiting {
         ensures block { SaysBlock result }
         ensures in_time { self.new.client.moment ≤ self.new.moment }
     {
+        // A room on the stack, so that a message takes no memory.
         let mut room = [0; LONGEST_MESSAGE];
         let delivered = self.client.deliver(self.moment, from, bytes, &mut room);
         send_reply(from, delivered.reply, &room, net);
@@ -299,7 +300,7 @@ fn send_reply<N: Net>(to: Endpoint, size: Option<usize>, room: &[u8], net: &mut 
     }
 }
 
-/// Whether what comes back is joined: it was asked for by a GET, and isn't observed.
+/// Whether the answers are joined: they were asked for by a GET, and nothing is observed.
 fn is_joined(chosen: &Chosen) -> bool
     ensures { result ≡ is_joined_of chosen.now }
 {
@@ -311,6 +312,7 @@ fn awaits_more(left: u32, consumed: Consumed) -> bool
     ensures { result ≡ awaits_further left consumed }
 {
     match consumed {
+        // Each end is listed, since with `_` the definition of the contract doesn't compute.
         Consumed::Done => 1 < left,
         Consumed::Other(_)
         | Consumed::Silent

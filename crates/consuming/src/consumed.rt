@@ -1,6 +1,6 @@
-//! How an operation ends, or a discovery.
+//! The ends of an operation, or of a discovery.
 
-/// How an operation ended, or a discovery.
+/// The end of an operation, or of a discovery.
 #[derive(Clone, Copy, Debug, PartialEq, Eq)]
 pub enum Consumed {
     /// It was done. Each payload that it brought was printed, where it isn't empty, or the lines of the Things.
@@ -19,7 +19,7 @@ pub enum Consumed {
     NoMemory,
 }
 
-/// What an operation came to that wasn't done.
+/// The outcome of an operation that wasn't done.
 #[derive(Clone, Copy, Debug, PartialEq, Eq)]
 pub enum Outcome {
     /// The value handed in isn't as the description says, and nothing was sent.

@@ -1,4 +1,4 @@
-//! Which Things a server has: it is asked for its links (RFC 6690).
+//! The Things of a server: it is asked for its links (RFC 6690).
 
 ghost use Rattle.std.specs.Prelude.{◌≡◌};
 ghost use Rattle.wot_consumer.specs.Discovery.{links_of, server_url as url_of_server};

@@ -17,10 +17,10 @@ use servient_outside::{Out, What};
 use std::alloc::Global;
 use wot_json::Bytes;
 
-/// How many milliseconds after the request, which is sent at moment 0, its reply is awaited.
+/// The number of milliseconds after the request, which is sent at moment 0, until which its reply is awaited.
 const DEADLINE: u64 = 60_000;
 
-/// What came so far.
+/// The state of waiting for a reply.
 #[derive(Drop)]
 pub struct HttpWaiting {
     /// The number of the connection.
@@ -62,7 +62,7 @@ impl HttpWaiting {
         }
     }
 
-    /// Keeps what came, and says what it comes to by that.
+    /// Keeps the bytes that came, and gives the verdict on them.
     fn take(&mut self, task: &Task<'_>, came: &Came<'_>) -> Option<Verdict>
         requires { CanBeJudged task.now.purpose }
         ensures brings { Brings task.now.purpose self.old.connection
@@ -91,7 +91,7 @@ impl HttpWaiting {
         }
     }
 
-    /// What it comes to by what came, which was kept, or that it goes on.
+    /// The verdict on the bytes that came, which were kept; none where it goes on.
     fn came(&self, task: &Task<'_>, what: What) -> Option<Verdict>
         requires { CanBeJudged task.now.purpose }
         ensures { Brings task.now.purpose self.now.connection self.now.received what result }
@@ -109,7 +109,7 @@ impl HttpWaiting {
     }
 }
 
-/// How the operation ends at this moment where nothing else ended it, or that it goes on.
+/// The end of the operation at this moment where nothing else ended it; none where it goes on.
 fn at_deadline(moment: u64) -> Option<Consumed>
     ensures { result ≡ ends_at_deadline moment }
 {

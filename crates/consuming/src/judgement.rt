@@ -16,7 +16,7 @@ const CREATED: u16 = 201;
 /// The code of a CoAP answer that says what was made, 2.01 (RFC 7252, section 5.9.1.1).
 const CREATED_CODE: u8 = 65;
 
-/// How a payload is judged.
+/// The judgement of a payload.
 #[derive(Clone, Copy, Debug, PartialEq, Eq)]
 pub enum Judged {
     /// It is as the description says.
@@ -29,7 +29,7 @@ pub enum Judged {
     NoMemory,
 }
 
-/// How the payload of an answer with this status is judged.
+/// The judgement of the payload of an answer with this status.
 pub fn judge_payload(
     alloc: Global,
     operation: &Operation<'_>,

@@ -1,10 +1,11 @@
 //! Consuming a Thing: one operation by the form that was chosen for it, over HTTP or over CoAP. And discovering Things: a
 //! server is asked for its links, over CoAP.
 //!
-//! `consume` is the relation `Consumes` of `specs/Consuming.antt`, and `discover` is `Discovers`: which acts are done to the
-//! network, which events are taken from it, what is printed, and how it ends. What an answer comes to is `specs/Answers.antt`; what each event does
-//! is `specs/HttpWaiting.antt` and `specs/CoapWaiting.antt`; how what is handed in and what comes back travel in blocks over
-//! CoAP is `specs/Blockwise.antt`. A law says that an operation fails by the network alone (`specs/Failing.antt`).
+//! `consume` is the relation `Consumes` of `specs/Consuming.antt`, and `discover` is `Discovers`: which acts are done
+//! to the network, which events are taken from it, what is printed, and how it ends. `specs/Answers.antt` gives the
+//! verdict on an answer; `specs/HttpWaiting.antt` and `specs/CoapWaiting.antt` give the effect of each event;
+//! `specs/Blockwise.antt` says how values travel in blocks over CoAP. A law says that an operation fails by the
+//! network alone (`specs/Failing.antt`).
 //!
 //! ```text
 //! let operation = Operation { tree: &tree, op: Op::ReadProperty, name: "status", input: None, count: 1 };

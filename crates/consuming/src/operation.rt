@@ -1,4 +1,4 @@
-//! What is asked of a Thing.
+//! An operation that is asked of a Thing.
 
 use wot_json::Tree;
 use wot_terms::Op;
@@ -13,6 +13,6 @@ pub struct Operation<'a> {
     pub name: &'a str,
     /// The value that is handed in, where there is one.
     pub input: Option<&'a Tree>,
-    /// How many values are waited for, where a property is observed; 0 counts as 1.
+    /// The number of values that are waited for, where a property is observed; 0 counts as 1.
     pub count: u32,
 }

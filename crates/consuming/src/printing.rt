@@ -1,4 +1,4 @@
-//! What is printed of an answer, and what ends by it.
+//! Printing an answer, and the end that it brings.
 
 ghost use Rattle.std.specs.Prelude.{◌≡◌, []};
 ghost use Rattle.servient_outside.specs.Network.{NetSeen};

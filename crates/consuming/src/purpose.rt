@@ -1,21 +1,21 @@
-//! What a request is sent for.
+//! The purpose of a request.
 
 ghost use Rattle.std.specs.Prelude.{◌≡◌};
 ghost use Rattle.consuming.specs.Answers.{count_of};
 
 use crate::Operation;
 
-/// What a request is sent for: it says what an answer of success comes to.
+/// The purpose of a request: it says what an answer of success comes to.
 #[derive(Clone, Copy)]
 pub enum Purpose<'a> {
     /// An operation of a Thing, by whose description a payload is judged.
     Operation(Operation<'a>),
-    /// To learn which Things the server with this URL has, of which a payload is the links (RFC 6690).
+    /// To learn the Things of the server with this URL, of which a payload is the links (RFC 6690).
     Discovery(&'a str),
 }
 
 impl Purpose<'_> {
-    /// How many values are waited for, where they are asked for as they come.
+    /// The number of values that are waited for, where they are asked for as they come.
     pub fn count(&self) -> u32
         ensures { result ≡ count_of self.now }
     {

@@ -1,10 +1,10 @@
-//! What stays the same while an answer is awaited.
+//! The values that stay the same while an answer is awaited.
 
 use crate::Purpose;
 use std::alloc::Global;
 use wot_consumer::Chosen;
 
-/// What is asked, what for, and where memory is taken.
+/// The request, its purpose, and the allocator of its memory.
 #[derive(Clone, Copy)]
 pub struct Task<'a> {
     pub alloc: Global,

@@ -1,4 +1,4 @@
-//! A request was sent, and what comes of it is awaited.
+//! A request was sent, and its answer is awaited.
 
 ghost use Rattle.consuming.specs.Deeds.{put_in, sight, Shows};
 ghost use Rattle.consuming.specs.Answers.{CanBeJudged};
@@ -16,7 +16,7 @@ pub struct Came<'a> {
     pub bytes: &'a [u8],
 }
 
-/// What is awaited, by the scheme of the form.
+/// The state of waiting for an answer, by the scheme of the form.
 #[derive(Drop)]
 pub enum Waiting {
     Http(HttpWaiting),

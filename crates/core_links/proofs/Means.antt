@@ -1,4 +1,4 @@
--- What text a reader of a link text has read, by where it stands.
+-- The text that a reader of a link text has read, by its place.
 use Rattle.std.proofs.Common.{arith, ◌≡◌, refl, sym, ap, ◌∙◌, ℕ, ◌≤◌, ◌==◌, List, [], ◌∷◌, ◌++◌, length, Bool, true, false, ◌&&◌, append_assoc, subst}
 use Rattle.std.specs.Prelude.{Option, Some, None, option_map}
 use Rattle.std.specs.List.{list_all}
@@ -18,7 +18,7 @@ use Rattle.core_links.proofs.Stands.{reader, ended_at}
 
 -- ---- parts of a text
 
--- what is before a link: nothing, or links, `,` and spaces
+-- the text before a link: nothing, or links, `,` and spaces
 pub data Front : List ℕ → List Link → Type 0 where
   front_start : Front [] []
   front_links : (before a b : List ℕ) (ls : List Link) → AreLinks before ls → AreSpaces a → AreSpaces b → Front (before ++ (a ++ (44 ∷ b))) ls
@@ -108,7 +108,7 @@ pub data Means : Reader → List ℕ → Type 0 where
   m_quoted : (text : List ℕ) (ls : List Link) (t : List ℕ) (ps : List Param) (n x v : List ℕ) → ParamAt text ls t ps → IsWord is_name_byte n → IsQuoted x v → Means (reader place.Quoted ls t ps n (Some v)) (text ++ (n ++ 61 ∷ 34 ∷ x))
   m_escape : (text : List ℕ) (ls : List Link) (t : List ℕ) (ps : List Param) (n x v : List ℕ) → ParamAt text ls t ps → IsWord is_name_byte n → IsQuoted x v → Means (reader place.Escape ls t ps n (Some v)) (text ++ (n ++ 61 ∷ 34 ∷ (x ++ 92 ∷ [])))
 
--- what a step leaves is so with the byte at the text's end
+-- the reader after a step means the text with the byte at its end
 abbrev pub Keeps : Reader → List ℕ → ℕ → Option Step → Type 0
 Keeps r text b None = Unit {0}
 Keeps r text b (Some s) = Means (stepped b r s) (text ++ b ∷ [])
@@ -320,7 +320,7 @@ means_text _ _ (m_token text ls t ps n v at word value) e = ended_text place.Tok
 means_text _ _ (m_quoted text ls t ps n x v at word value) e = absurd cc
 means_text _ _ (m_escape text ls t ps n x v at word value) e = absurd cc
 
--- what goes on to an end begins a link text
+-- a text that goes on to an end begins a link text
 goes_on : (r s : Reader) (text xs : List ℕ) → Means r text → run (Some r) xs ≡ Some s → may_end s.place ≡ true → BeginsLinkText text
 goes_on r s text xs m e may = record { rest = xs; links = links_at s.place s; whole = means_text s (text ++ xs) (means_run r s text xs m e) may }
 

@@ -1,4 +1,4 @@
--- What reading gives, from the runs of a reader.
+-- The result of reading, from the runs of a reader.
 use Rattle.std.proofs.Common.{arith, ◌≡◌, refl, sym, ap, ◌∙◌, ℕ, ◌+◌, ◌≤◌, ◌<◌, List, [], ◌++◌, length, take, drop, true, false, subst}
 use Rattle.std.specs.Prelude.{Option, Some, None, Result, Ok, Err, slice_index}
 use Rattle.std.proofs.lemmas.List.{append-nil, take-append-drop, take-take}

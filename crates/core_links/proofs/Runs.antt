@@ -1,4 +1,4 @@
--- What a reader is after bytes one after another.
+-- A reader after bytes one after another.
 use Rattle.std.proofs.Common.{◌≡◌, refl, sym, ap, ◌∙◌, ℕ, ◌+◌, ◌<◌, List, [], ◌∷◌, ◌++◌, length, take, Bool, true, false, ◌&&◌}
 use Rattle.std.specs.Prelude.{Option, Some, None, slice_index, option_and_then, if◌then◌else◌}
 use Rattle.std.proofs.lemmas.List.{take_more}
@@ -35,7 +35,7 @@ both_true true true e = (refl, refl)
 both_true true false e = absurd cc
 both_true false c e = absurd cc
 
--- what holds of both values of a choice, holds of the choice
+-- a property of both values of a choice is one of the choice
 pub by_test : {A : Type 0} (b : Bool) (x y : A) (P : A → Type 0) → (b ≡ true → P x) → (b ≡ false → P y) → P (if b then x else y)
 by_test true x y P f g = f refl
 by_test false x y P f g = g refl

@@ -1,5 +1,5 @@
--- How a reader goes on through a link text, byte by byte, and what it keeps. The reader's own words; what it comes to is
--- said by the grammar.
+-- The steps of a reader through a link text, byte by byte, and the values that it keeps. These are the reader's own
+-- words; the grammar defines its result.
 use Rattle.std.specs.Prelude.{◌≡◌, ◌<◌, ℕ, Result, Ok, Err, length, take, slice_index, ◌==◌, List, [], ◌∷◌, ◌++◌, Bool, true, false, Option, Some, None, option_map, option_and_then, if◌then◌else◌}
 use Rattle.core_links.specs.Links.{is_target_byte, is_name_byte, is_token_byte, is_escaped, is_plain}
 use Rattle.core_links.specs.declared.links.Link.{Link}
@@ -80,7 +80,7 @@ step_at place.Token b = step_token b
 step_at place.Quoted b = step_quoted b
 step_at place.Escape b = step_escape b
 
--- ---- what is kept
+-- ---- the state that is kept
 
 -- the parameter of this name is done, if there is one
 abbrev pub param_ended : List ℕ → Reader → Reader
@@ -107,14 +107,14 @@ acted act.Value b r = value_more b r
 acted act.EndParam b r = with_param_ended r
 acted act.EndLink b r = link_ended (with_param_ended r)
 
--- what the reader is after a step
+-- the reader after a step
 abbrev pub stepped : ℕ → Reader → Step → Reader
 stepped b r s = acted s.act b (record r { place = s.place })
 
 abbrev pub step : Reader → ℕ → Option Reader
 step r b = option_map (stepped b r) (step_at r.place b)
 
--- what the reader is after some bytes, if they may stand there
+-- the reader after some bytes, if they may stand there
 abbrev pub run : Option Reader → List ℕ → Option Reader
 run r [] = r
 run r (b ∷ bs) = run (option_and_then (λ s. step s b) r) bs

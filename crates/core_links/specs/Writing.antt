@@ -40,7 +40,7 @@ abbrev pub links_text : List Link → List ℕ
 links_text [] = []
 links_text (l ∷ ls) = link_text l ++ flat_map further_text ls
 
--- ---- what can be written so that it is read back
+-- ---- links that can be written so that they are read back
 
 abbrev pub is_value : Option (List ℕ) → Bool
 is_value None = true

@@ -2,7 +2,7 @@
 //!
 //! `read` gives the links of a link text, or the length of the longest prefix that some link text begins with. `write`
 //! writes links, without spaces, and with quotes round each value but one of digits alone. The grammar is
-//! `specs/Links.antt`, a profile of the RFC's; what is written is `specs/Writing.antt`.
+//! `specs/Links.antt`, a profile of the RFC's; `specs/Writing.antt` says how they are written.
 //!
 //! ```text
 //! let links = read(alloc, br#"</lamp>;rt="wot.thing";ct=432"#)?;

@@ -1,4 +1,4 @@
-//! What a reader of a link text keeps from byte to byte.
+//! The state that a reader of a link text keeps from byte to byte.
 
 ghost use Rattle.std.specs.Prelude.{◌≡◌, [], None, IfOk, OnOk, Some, if◌then◌else◌};
 ghost use Rattle.core_links.specs.Steps as spec;
@@ -10,7 +10,7 @@ use std::alloc::Global;
 use std::mem::replace;
 use wot_json::Bytes;
 
-/// The links that have ended, and what there is of the next one. A name that isn't empty is that of a parameter that
+/// The links that have ended, and the part of the next one. A name that isn't empty is that of a parameter that
 /// hasn't ended.
 #[derive(Drop)]
 pub struct Reader {
@@ -89,6 +89,7 @@ impl Reader {
         if self.name.is_empty() {
             return Ok(());
         }
+        // Replaced, since nothing can be moved out of a reader that is lent.
         let name = replace(&mut self.name, Bytes::new(alloc));
         let value = replace(&mut self.value, None);
         self.params.push(Param { name, value })

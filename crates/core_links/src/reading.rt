@@ -10,7 +10,7 @@ use crate::steps::may_end;
 use std::alloc::{AllocError, Global};
 use thiserror::Error;
 
-/// Why bytes are no links.
+/// The reason for which bytes are no links.
 #[derive(Debug, Drop, Error, PartialEq, Eq)]
 pub enum LinkFault {
     /// The length of the longest prefix that some link text begins with.

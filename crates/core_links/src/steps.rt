@@ -1,10 +1,11 @@
-//! Where a reader of a link text is, and what a byte does there (RFC 6690, section 2). Each byte is looked at once.
+//! The places of a reader of a link text, and the effect of a byte at each (RFC 6690, section 2). Each byte is looked
+//! at once.
 
 ghost use Rattle.std.specs.Prelude.{◌≡◌};
 ghost use Rattle.core_links.specs.Links as grammar;
 ghost use Rattle.core_links.specs.Steps as spec;
 
-/// Where a reader is.
+/// The place of a reader.
 #[derive(Debug, Clone, Copy, PartialEq, Eq, Drop)]
 pub enum Place {
     /// At the front of the text.
@@ -30,7 +31,7 @@ pub enum Place {
     Escape,
 }
 
-/// What a reader does with a byte.
+/// An act of a reader on a byte.
 #[derive(Debug, Clone, Copy, PartialEq, Eq, Drop)]
 pub enum Act {
     /// Nothing is kept of it.
@@ -49,7 +50,7 @@ pub enum Act {
     EndLink,
 }
 
-/// Where a reader is after a byte, and what it does with it.
+/// The place of a reader after a byte, and its act on the byte.
 #[derive(Debug, Clone, Copy, PartialEq, Eq, Drop)]
 pub struct Step {
     pub place: Place,
@@ -225,7 +226,8 @@ pub fn step_at(place: Place, byte: u8) -> Option<Step>
     }
 }
 
-/// A link text may end at this place.
+/// A link text may end at this place. Each place is listed, since with `_` the definition of the contract doesn't
+/// compute.
 pub fn may_end(place: Place) -> bool
     ensures { result ≡ spec.may_end place }
 {

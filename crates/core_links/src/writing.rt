@@ -13,8 +13,8 @@ use wot_json::Bytes;
 
 /// Writes links at the front of `out`, and returns the length of their text; None where that is longer than `out`.
 ///
-/// Values of one digit or more and nothing else are written as they are, all others in quotes; there are no spaces. What
-/// is written can be read back where targets and names are of the grammar, and values have no byte below 32
+/// Values of one digit or more and nothing else are written as they are, all others in quotes; there are no spaces. The
+/// text can be read back where targets and names are of the grammar, and values have no byte below 32
 /// (`links_are_read_back`).
 pub fn write(links: &Links, out: &mut [u8]) -> Option<usize>
     ensures { PutsIfRoom (links_text links.now) 0 out.old out.new result }
@@ -40,6 +40,7 @@ fn put_further(links: &[Link], out: &mut [u8], at: usize) -> Option<usize>
 {
     let mut end = at;
     for link in links {
+        // A match and not `?`, since that gives the proof of the loop facts on `ControlFlow` alone.
         match put_further_link(link, out, end) {
             Some(next) => end = next,
             None => return None,

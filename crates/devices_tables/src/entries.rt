@@ -1,4 +1,4 @@
-//! Lists of devices: what they say, or the place of what is wrong first.
+//! Lists of devices: their entries, or the place of the first that is wrong.
 
 use case_notation::bytes_of;
 use file_devices::{EntriesFault, Entry, read_entries};
@@ -6,7 +6,7 @@ use std::alloc::{AllocError, Global};
 use std::fmt::Write;
 use wot_json::read;
 
-/// Writes a device.
+/// Writes a device. The text is lent, since a function pays at each early exit for what it owns.
 fn put_entry(text: &mut String, entry: &Entry) -> Result<(), AllocError> {
     write!(
         text,
@@ -15,7 +15,7 @@ fn put_entry(text: &mut String, entry: &Entry) -> Result<(), AllocError> {
     )
 }
 
-/// Writes what a list of devices says.
+/// Writes the entries of a list of devices.
 pub fn put_entries(text: &mut String, alloc: Global, given: &str) -> Result<(), AllocError> {
     let bytes = bytes_of(alloc, given)?;
     let Ok(tree) = read(alloc, bytes.as_slice()) else {

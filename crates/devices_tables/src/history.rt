@@ -13,7 +13,7 @@ use wot_json::{Bytes, Text, Tree, read, text_of};
 /// The longest text of a value that is written whole.
 const LONGEST_WRITTEN: usize = 100;
 
-/// What comes before a device in its history.
+/// The setting of a device in its history.
 #[derive(Drop)]
 struct Before {
     files: Held,
@@ -41,7 +41,7 @@ fn content_of(alloc: Global, text: &str) -> Result<Bytes, AllocError> {
 }
 
 impl Before {
-    /// Takes a line that says what stands outside.
+    /// Takes a line that says a part of the setting.
     fn take(&mut self, alloc: Global, line: &str) -> Result<(), AllocError> {
         match line.split_once(' ') {
             Some(("file", rest)) => {
@@ -145,7 +145,7 @@ fn put_answer(text: &mut String, alloc: Global, answer: &Answer) -> Result<(), A
     }
 }
 
-/// Writes what a file holds.
+/// Writes the content of a file.
 fn put_content(text: &mut String, device: &Device, name: &str) -> Result<(), AllocError> {
     let Some(files) = device.handler.files() else {
         return text.push_str("no files");

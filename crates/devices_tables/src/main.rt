@@ -1,5 +1,5 @@
-//! Tables of devices behind files. Each word names a file of cases. In `entries` a row is a list of devices, ` => `, and
-//! what it says. In `devices` the lines between two empty lines are a history of one device:
+//! Tables of devices behind files. Each word names a file of cases. In `entries` a row is a list of devices, ` => `,
+//! and its entries. In `devices` the lines between two empty lines are a history of one device:
 //!
 //! ```text
 //! file NAME CONTENT          a file; in a content `\n` is a line end
@@ -11,8 +11,8 @@
 //! content NAME               what the file holds
 //! ```
 //!
-//! The program prints each step with what does come of it, and each other line as it is: so it prints its files, if all is
-//! right.
+//! The program prints each step with its real outcome, and each other line as it is, so that it prints its files, if
+//! all is right.
 #![tactic(auto)]
 
 mod entries;
@@ -22,7 +22,7 @@ mod readings;
 use std::alloc::{AllocError, Global};
 use std::{env, fs, io};
 
-/// Writes the rows of lists, each with what it says.
+/// Writes the rows of lists, each with its entries.
 fn put_rows(text: &mut String, alloc: Global, lines: &str) -> Result<(), AllocError> {
     for line in lines.lines() {
         match line.split_once(" => ") {

@@ -1,4 +1,4 @@
--- Which refusals hold of a request to the directory, and which don't.
+-- The refusals that hold of a request to the directory, and those that don't.
 use Rattle.std.proofs.Common.{◌≡◌, ℕ, List, [], true, false, refl, sym, ap, subst, ◌∙◌, inl, inr}
 use Rattle.std.specs.Prelude.{Option, Some, None, Ok, Err}
 use Rattle.wot_json.specs.Tree.{Json}
@@ -16,14 +16,14 @@ use Rattle.directory_requests.specs.declared.judging.Task.TheVariants as task
 use Rattle.directory_requests.specs.Asked.{act_asked, answer_format, body_format, inputs_of, if_readable, demands_of, IsRefused}
 use Rattle.directory_requests.specs.Judged.{IsAsked, IsTask, IsJudged, IsRefusedOrMemory}
 
--- what holds of the act that is asked for
+-- a fact of the act that is asked for
 holding : (P : DirectoryAct → Type 0) (o : Option DirectoryAct) (a : DirectoryAct) → o ≡ Some a → P a → Holding P o
 holding P o a e p = subst (λ (x : Option DirectoryAct). Holding P x) (sym e) p
 
 held : (P : DirectoryAct → Type 0) (o : Option DirectoryAct) (a : DirectoryAct) → o ≡ Some a → Holding P o → P a
 held P o a e h = subst (λ (x : Option DirectoryAct). Holding P x) e h
 
--- what is in its body hands in nothing to a handler
+-- a body that is read hands in nothing to a handler
 readable : (body : List ℕ) (value : Json) → tree_of body ≡ Some value → if_readable body ≡ Some []
 readable body value e = rw e refl
 

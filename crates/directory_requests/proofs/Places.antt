@@ -1,4 +1,4 @@
--- What the search of `memchr` finds, in the words of the definitions.
+-- The place that the search of `memchr` finds, in the words of the definitions.
 use Rattle.std.proofs.Common.{◌≡◌, ℕ, ◌+◌, ◌-◌, ◌<◌, ◌≤◌, Bool, true, false, List, [], ◌∷◌, length, take, drop, refl, sym, ◌∙◌, arith}
 use Rattle.std.specs.Prelude.{Some, None, ◌==◌}
 use Rattle.std.specs.List.{position_or_len, slice_split}
@@ -8,7 +8,7 @@ use Rattle.std.proofs.lemmas.List.Splits.{slice_split_first, slice_split_none}
 use Rattle.std.proofs.lemmas.List.Sums.{position_or_len_is, fails_before_first}
 use Rattle.memchr.specs.Find.{IsFirstByte, is_byte}
 
--- what isn't true is false
+-- a test that isn't true is false
 isnt_true : (b : Bool) → ¬ (b ≡ true) → b ≡ false
 isnt_true true isnt = absurd (isnt refl)
 isnt_true false isnt = refl

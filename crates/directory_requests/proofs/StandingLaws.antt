@@ -1,4 +1,4 @@
--- What stands at a later moment is what stands then of what stood before.
+-- The entries that stand at a later moment are those that stand then of those that stood before.
 use Rattle.std.proofs.Common.{arith, ◌≡◌, ◌≤◌, ℕ, List, [], ◌∷◌, refl, sym, ap, ap₂, subst, ◌∙◌, inl, inr, Bool, true, false, cond}
 use Rattle.std.specs.Prelude.{Option, Some, None, not, nat_le, filter}
 use Rattle.std.specs.Str.{bytes_eq}
@@ -17,7 +17,7 @@ use Rattle.directory_requests.specs.Requests.{standing_at}
 abbrev TimesList : Type 0
 TimesList = List (List ℕ × Times)
 
--- what isn't reached at a moment wasn't before
+-- a moment that isn't reached now wasn't before
 unreached : (n m : ℕ) (e : Option ℕ) → n ≤ m → not (is_reached m e) ≡ true → not (is_reached n e) ≡ true
 unreached n m None sooner is = refl
 unreached n m (Some moment) sooner is = grind (arith, nat_tests, sooner, is)
@@ -26,7 +26,8 @@ stood : (n m : ℕ) (t : Option Times) → n ≤ m → stands_by m t ≡ true �
 stood n m None sooner is = refl
 stood n m (Some t) sooner is = unreached n m (expiry t) sooner is
 
--- a part of a part is the part, where the tests agree on the first part and the second test passes no more than the first
+-- a part of a part is the part, where the tests agree on the first part and the second test passes no more than the
+-- first
 part_of_part : {X : Type 0} (p q r : List ℕ → Bool) (es : List (List ℕ × X)) → ((id : List ℕ) → p id ≡ true → r id ≡ q id) → ((id : List ℕ) → q id ≡ true → p id ≡ true)
     → filter (λ e. r e.0) (filter (λ e. p e.0) es) ≡ filter (λ e. q e.0) es
 part_of_part p q r [] agree fewer = refl

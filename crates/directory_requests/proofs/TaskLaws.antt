@@ -1,4 +1,4 @@
--- What is to be done tells the act that was asked for; and an act on an entry was asked for at the path of one.
+-- A task tells the act that was asked for; and an act on an entry was asked for at the path of one.
 use Rattle.std.proofs.Common.{◌≡◌, ℕ, List, [], ◌∷◌, Bool, true, false, refl, sym, ap, subst, ◌∙◌, inl, inr}
 use Rattle.std.proofs.lemmas.Option.{same_Some}
 use Rattle.std.specs.Prelude.{Some, None, if◌then◌else◌}

@@ -1,6 +1,6 @@
--- What a request asks of the directory (after the Things API of WoT Discovery, in outline), and why it is refused before
--- the directory is asked. The refusals are those of all requests (thing_site/specs/Refusals.antt); what is told here are
--- the rows of their tables.
+-- The act that a request asks of the directory (after the Things API of WoT Discovery, in outline), and the refusals
+-- before the directory is asked. They are those of all requests (thing_site/specs/Refusals.antt); the rows of their
+-- tables stand here.
 use Rattle.std.specs.Prelude.{◌≡◌, ◌⊎◌, ℕ, List, [], ◌∷◌, Bool, true, false, Option, Some, None, option_map, if◌then◌else◌}
 use Rattle.wot_json.specs.Reading.{tree_of}
 use Rattle.thing_ops.specs.declared.verb.Verb.{Verb}
@@ -36,7 +36,7 @@ abbrev pub id_in : List (List ℕ) → List ℕ
 id_in (things ∷ id ∷ path) = id
 id_in path = []
 
--- what a verb asks for at such a path where it is taken
+-- the act of a verb at such a path where it is taken
 abbrev pub act_of : RouteKind → Verb → DirectoryAct
 act_of route.Things verb.Post = act.Creates
 act_of route.Things v = act.Lists
@@ -49,7 +49,7 @@ act_of form v = act.Shows
 abbrev pub no_flags : Flags
 no_flags = record { read_only = false; write_only = false }
 
--- what it asks for, where the table of verbs has it there
+-- the act, where the table of verbs has it there
 abbrev pub act_at : RouteKind → Verb → Option DirectoryAct
 act_at form v = if is_listed v (verbs_of form no_flags) then Some (act_of form v) else None
 
@@ -58,13 +58,13 @@ act_asked q = act_at (route_of q.path) q.verb
 
 -- ---- what an act asks of a request
 
--- what its answer can be sent as
+-- the formats of its answer
 abbrev pub answer_format : DirectoryAct → AnswerFormat
 answer_format act.Lists = sent.Json
 answer_format act.Shows = sent.Description
 answer_format a = sent.Any
 
--- what its body is taken as
+-- the formats of its body
 abbrev pub body_format : DirectoryAct → BodyFormat
 body_format act.Creates = taken.Description
 body_format act.Shows = taken.Description
@@ -92,7 +92,7 @@ demands_of a = record { answer = answer_format a; body = body_format a; inputs =
 abbrev pub refusals : List Refusal
 refusals = nothing_there ∷ verb_not_taken ∷ refusals_by_request
 
--- when each of them holds
+-- each of them holds
 abbrev pub Stands : Refusal → PlainRequest → Type 0
 -- the path isn't one of the directory's
 Stands nothing_there q = is_of_directory (route_of q.path) ≡ false
@@ -100,7 +100,7 @@ Stands nothing_there q = is_of_directory (route_of q.path) ≡ false
 Stands verb_not_taken q = act_asked q ≡ None
 Stands r q = Holding (λ a. StandsBy r (demands_of a) q) (act_asked q)
 
--- what each of them is answered with
+-- the answer to each of them
 abbrev pub IsAnsweredWith : Refusal → PlainRequest → Outcome → Type 0
 IsAnsweredWith nothing_there q o = o ≡ outcome.NotFound
 IsAnsweredWith verb_not_taken q o = (allow : Allow) × (verbs_in allow ≡ verbs_of (route_of q.path) no_flags) × (o ≡ outcome.NotAllowed allow)

@@ -1,4 +1,4 @@
--- What of a query is still to be looked through.
+-- The items of a query that are still to be looked through.
 use Rattle.std.specs.Prelude.{ℕ, suc, List, [], length, Option, Some, None}
 use Rattle.std.specs.Borrow.{Bor}
 use Rattle.directory_requests.specs.Window.{items_of}
@@ -8,7 +8,7 @@ abbrev pub items_in : Option (Bor (List ℕ)) → List (List ℕ)
 items_in None = []
 items_in (Some items) = items_of items.now
 
--- how many bytes they are in, and one for them
+-- the number of bytes that they are in, and one for them
 abbrev pub bytes_in : Option (Bor (List ℕ)) → ℕ
 bytes_in None = 0
 bytes_in (Some items) = suc (length items.now)

@@ -1,4 +1,4 @@
--- What the functions that judge a request and do its act say of one another.
+-- The clauses of the functions that judge a request and do its act.
 use Rattle.std.specs.Prelude.{◌≡◌, ◌⊎◌, ℕ, List, [], ◌∷◌, Some, Result, Ok, Err}
 use Rattle.wot_json.specs.Meaning.{json_of}
 use Rattle.wot_json.specs.Reading.{tree_of}

@@ -1,5 +1,5 @@
--- What a request does to the directory, and its outcome. The entries of a directory may have times (WoT Discovery,
--- registration information): then each request finds what stands at its moment.
+-- The effect of a request on the directory, and its outcome. The entries of a directory may have times (WoT Discovery,
+-- registration information): then each request finds those that stand at its moment.
 use Rattle.std.specs.Prelude.{◌≡◌, ◌⊎◌, ℕ, List, Bool, Option, Some, None, if◌then◌else◌}
 use Rattle.wot_json.specs.Tree.{Json}
 use Rattle.wot_json.specs.Json.{text_of}
@@ -26,7 +26,7 @@ use Rattle.directory_requests.specs.Window.{window_of}
 
 -- ---- outcomes
 
--- what a fault is answered with
+-- the answer to a fault
 abbrev pub outcome_of : DirFault → Outcome
 outcome_of fault.NotFound = outcome.NotFound
 outcome_of (fault.Invalid first) = outcome.Invalid first.number
@@ -83,7 +83,7 @@ RemovesEntry id o d t =
     (Removes id d t × (o ≡ outcome.Deleted))
     ⊎ IsNotDone (λ e. HasRemoveFault e id d) o d t
 
--- What each act does: the table of acts.
+-- The effect of each act: the table of acts.
 abbrev pub Performs : DirectoryAct → PlainRequest → Outcome → Contents → Contents → Type 0
 Performs act.Lists q o d t = (o ≡ listed_by (window_of q.query) d.entries) × (t ≡ d)
 Performs act.Creates q o d t = WithBody q.body (λ description. CreatesEntry description o d t)
@@ -118,7 +118,7 @@ RemovesEntryAt id o r s =
     (RemovesAt id r s × (o ≡ outcome.Deleted))
     ⊎ IsNotDoneAt (λ e. IsRemoveFault e id r) o r s
 
--- What each act does: the same table, where entries are given out with what is said of their times.
+-- The effect of each act: the same table, where entries are given out with their times.
 abbrev pub PerformsAt : DirectoryAct → PlainRequest → ℕ → Outcome → Registered → Registered → Type 0
 PerformsAt act.Lists q now o r s = (o ≡ listed_by (window_of q.query) (shown_entries r)) × (s ≡ r)
 PerformsAt act.Creates q now o r s = WithBody q.body (λ description. CreatesEntryAt description now o r s)
@@ -134,7 +134,7 @@ abbrev pub no_entries : Option ℕ → Entries
 no_entries None = kept.Untimed empty_directory
 no_entries (Some epoch) = kept.Timed (empty_registry epoch)
 
--- what stands at a moment: all but entries whose time to live has passed
+-- the entries that stand at a moment: all but those whose time to live has passed
 abbrev pub standing_at : ℕ → Entries → Entries
 standing_at now (kept.Untimed d) = kept.Untimed d
 standing_at now (kept.Timed r) = kept.Timed (standing now r)

@@ -1,4 +1,4 @@
--- Which entries a list of the directory has, by the query of its request.
+-- The part of the entries that a list of the directory has, by the query of its request.
 use Rattle.std.specs.Prelude.{◌≡◌, ℕ, ◌==◌, ◌&&◌, min, nat_le, List, [], ◌∷◌, length, Bool, true, false, Option, Some, None, option_and_then, codes, if◌then◌else◌}
 use Rattle.std.specs.List.{slice_split, before_first, after_first, list_all}
 use Rattle.std.specs.Str.{bytes_eq}
@@ -41,7 +41,7 @@ number_or otherwise (Some text) = number_in text
 
 -- ---- the window
 
--- how many are listed where nothing is said, and at most
+-- the number of entries that are listed where nothing is said, and at most
 abbrev pub usual_limit : ℕ
 usual_limit = 32
 
@@ -52,8 +52,8 @@ greatest_limit = 100
 abbrev pub window_from : ℕ → ℕ → Option Window
 window_from offset limit = if limit == 0 then None else Some record { offset = offset; limit = min limit greatest_limit }
 
--- What a query asks for by its items `offset` and `limit`, of which the first of each name counts; all others are
--- ignored. None: one of them is no number as above, or the limit is 0.
+-- The window that a query asks for by its items `offset` and `limit`, of which the first of each name counts; all
+-- others are ignored. None: one of them is no number as above, or the limit is 0.
 abbrev pub window_of : List ℕ → Option Window
 window_of query =
     option_and_then (λ offset. option_and_then (window_from offset) (number_or usual_limit (value_in (codes "limit") (items_of query))))

@@ -1,4 +1,4 @@
-//! What a request asks of the directory: its act by path and verb, and which formats the act takes.
+//! The acts of the directory, by path and verb, and the formats that each takes.
 
 ghost use Rattle.std.specs.Prelude.{◌≡◌, Some, None, MatchResult, slice_get};
 ghost use Rattle.thing_ops.specs.Requests.{plain_request};
@@ -9,7 +9,7 @@ ghost use Rattle.directory_requests.specs.Asked as spec;
 use thing_ops::{Allow, Flags, RouteKind, Segments, Verb, allowed};
 use thing_site::{AnswerFormat, BodyFormat};
 
-/// What a request asks of the directory. The id of an entry is in the request's path.
+/// An act that a request asks of the directory. The id of an entry is in the request's path.
 #[derive(Clone, Copy, Debug, PartialEq, Eq, Drop)]
 pub enum DirectoryAct {
     /// The list of the descriptions.
@@ -56,7 +56,7 @@ pub fn act_at(route: RouteKind, verb: Verb) -> Result<DirectoryAct, Allow>
     }
 }
 
-/// What a verb asks for where it is taken.
+/// The act of a verb where it is taken.
 fn act_of(route: RouteKind, verb: Verb) -> DirectoryAct
     ensures { result ≡ spec.act_of route verb }
 {
@@ -71,7 +71,7 @@ fn act_of(route: RouteKind, verb: Verb) -> DirectoryAct
 }
 
 impl DirectoryAct {
-    /// What its answer can be sent as.
+    /// The formats of its answer.
     pub fn answer_format(self) -> AnswerFormat
         ensures { result ≡ spec.answer_format self }
     {
@@ -85,7 +85,7 @@ impl DirectoryAct {
         }
     }
 
-    /// What its body is taken as.
+    /// The formats of its body.
     pub fn body_format(self) -> BodyFormat
         ensures { result ≡ spec.body_format self }
     {

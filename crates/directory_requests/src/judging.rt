@@ -1,4 +1,4 @@
-//! Whether a request to the directory is refused.
+//! Judging whether a request to the directory is refused.
 
 ghost use Rattle.std.specs.Prelude.{◌≡◌, [], IfOk, IfErr};
 ghost use Rattle.thing_ops.specs.Requests.{plain_request};
@@ -13,7 +13,7 @@ use thing_ops::{Outcome, Request, route};
 use thing_site::{judge_formats, value_in};
 use wot_json::Tree;
 
-/// What is to be done: an act, with the description or the patch that is handed in.
+/// A task: an act, with the description or the patch that is handed in.
 #[derive(Debug, Drop)]
 pub enum Task {
     Lists,
@@ -24,7 +24,7 @@ pub enum Task {
     Removes,
 }
 
-/// What a request asks to be done, where nothing is against it; else the outcome of its first refusal, or out of memory.
+/// The task of a request, where nothing is against it; else the outcome of its first refusal, or out of memory.
 pub fn judge(alloc: Global, request: &Request<'_>) -> Result<Task, Outcome>
     ensures ok { IfOk result (λ task. IsJudged (plain_request request.now) task) }
     ensures fault { IfErr result (λ o. IsRefusedOrMemory (plain_request request.now) o) }
@@ -48,7 +48,7 @@ fn act_of(request: &Request<'_>) -> Result<DirectoryAct, Outcome>
     }
 }
 
-/// What is to be done of an act, with what is in this body.
+/// The task of an act, with the value in this body.
 fn task_of(alloc: Global, act: DirectoryAct, body: &[u8]) -> Result<Task, Outcome>
     ensures ok { IfOk result (λ task. IsTask act body.now task) }
     ensures fault { IfErr result (λ o. HasNoInputs (inputs_of act body.now) o) }
@@ -63,7 +63,7 @@ fn task_of(alloc: Global, act: DirectoryAct, body: &[u8]) -> Result<Task, Outcom
     }
 }
 
-/// What is to be done where no body is taken.
+/// This task, where no body is taken.
 fn unless_body(task: Task, body: &[u8]) -> Result<Task, Outcome>
     ensures ok { IfOk result (λ t. (t ≡ task) × (body.now ≡ [])) }
     ensures fault { IfErr result (λ o. HasNoInputs (no_inputs body.now) o) }

@@ -1,10 +1,10 @@
-//! Requests to the directory of Thing Descriptions: what they ask, why they are refused, and what they do (after the
-//! Things API of WoT Discovery, in outline).
+//! Requests to the directory of Thing Descriptions: their acts, their refusals, and their effects (after the Things API
+//! of WoT Discovery, in outline).
 //!
 //! A `DirectoryServer` judges a request by the refusals of all requests, of which the directory has rows of its own
-//! (`specs/Asked.antt`), and then does its act (`specs/Requests.antt`): with a `Directory`, or, where it is known when
-//! the clock began, with a `Registry`, whose entries have times and may be over. Which entries a list has is said by the
-//! query (`specs/Window.antt`).
+//! (`specs/Asked.antt`), and then does its act (`specs/Requests.antt`): with a `Directory`, or, where the moment is
+//! known at which the clock began, with a `Registry`, whose entries have times and may be over. The query says which
+//! entries a list has (`specs/Window.antt`).
 //!
 //! ```
 //! use directory_requests::DirectoryServer;
@@ -16,9 +16,9 @@
 //! assert!(matches!(outcome, Outcome::Created(Some(_))));
 //! ```
 //!
-//! The contract in a sentence: what is over at the moment of a request is taken away; the outcome is that of the first
-//! refusal, or of the act, and the directory is then as the step of `wot_directory` or `wot_registry` has it, or as it
-//! was; and where it was out of memory nothing else changed.
+//! The contract in a sentence: entries that are over at the moment of a request are taken away; the outcome is that of
+//! the first refusal, or of the act, and the directory is then as the step of `wot_directory` or `wot_registry` has it,
+//! or as it was; and where it was out of memory nothing else changed.
 #![tactic(auto)]
 
 mod act;

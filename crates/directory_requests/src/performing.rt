@@ -1,4 +1,4 @@
-//! What a request does to a directory whose entries have no times.
+//! The effects of requests on a directory whose entries have no times.
 
 ghost use Rattle.std.specs.Prelude.{◌≡◌};
 ghost use Rattle.wot_json.specs.Meaning.{json_of};
@@ -16,7 +16,7 @@ use thing_ops::{Accept, Outcome, Request};
 use wot_directory::{DirFault, Directory};
 use wot_json::{Tree, text_of};
 
-/// Does what is to be done of a request.
+/// Performs the task of a request.
 pub(crate) fn perform_task(
     alloc: Global,
     directory: &mut Directory,

@@ -1,5 +1,5 @@
-//! What a request does to a directory whose entries have times, at a moment. Each call of `Registry` takes away first
-//! what is over then; where none is made, `remove_expired` does.
+//! The effects of requests on a directory whose entries have times, at a moment. Each call of `Registry` takes away
+//! first the entries that are over then; where none is made, `remove_expired` does.
 
 ghost use Rattle.std.specs.Prelude.{◌≡◌, ◌≤◌, option_map};
 ghost use Rattle.wot_json.specs.Meaning.{json_of};
@@ -19,7 +19,7 @@ use thing_ops::{Accept, Outcome, Request};
 use wot_json::{Tree, text_of};
 use wot_registry::{RegFault, Registry};
 
-/// Does what is to be done of a request, at the moment `now`.
+/// Performs the task of a request, at the moment `now`.
 pub(crate) fn perform_task_at(
     alloc: Global,
     registry: &mut Registry,
@@ -55,6 +55,7 @@ fn list(registry: &mut Registry, query: &[u8], now: u64) -> Outcome
     let window = match window_of(query) {
         Some(window) => window,
         None => {
+            // The query is refused before any call of `Registry`, so that nothing else has taken these away.
             registry.remove_expired(now);
             return Outcome::BadValue;
         }

@@ -46,8 +46,8 @@ impl Model for DirectoryServer {
 }
 
 impl DirectoryServer {
-    /// A directory without entries. Where it is known when the clock began, in milliseconds after the start of 1970,
-    /// its entries have times.
+    /// A directory without entries. They have times, where it is known how many milliseconds after the start of 1970
+    /// the clock began.
     pub fn new(alloc: Global, epoch: Option<u64>) -> Self
         requires { IfSome epoch (λ e. e ≤ last_millisecond) }
         ensures { result ≡ no_entries epoch }
@@ -58,7 +58,8 @@ impl DirectoryServer {
         }
     }
 
-    /// Does what a request asks at the moment `now`, once what is over then was taken away, and gives its outcome.
+    /// Performs a request at the moment `now`, once the entries that are over then were taken away, and gives its
+    /// outcome.
     pub fn perform(&mut self, request: &Request<'_>, now: u64) -> Outcome
         requires { now ≤ last_moment }
         ensures { ActsOnStanding (plain_request request.now) now result (standing_at now self.old) self.new }
@@ -85,7 +86,7 @@ impl Entries {
         }
     }
 
-    /// Takes away what is over at the moment `now`.
+    /// Takes away the entries that are over at the moment `now`.
     fn remove_expired(&mut self, now: u64)
         ensures { self.new ≡ standing_at now self.old }
     {
@@ -95,7 +96,7 @@ impl Entries {
         }
     }
 
-    /// Does what is to be done of a request at the moment `now`, once what is over then was taken away.
+    /// Performs the task of a request at the moment `now`, once the entries that are over then were taken away.
     fn perform(&mut self, alloc: Global, task: Task, request: &Request<'_>, now: u64) -> Outcome
         requires judged { IsJudged (plain_request request.now) task }
         requires bound { now ≤ last_moment }

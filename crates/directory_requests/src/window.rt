@@ -1,4 +1,4 @@
-//! Which entries a list has, by the query of its request.
+//! The part of the entries that a list has, by the query of its request.
 
 ghost use Rattle.std.specs.Prelude.{◌≡◌, ◌≤◌, ◌∷◌, ◌==◌, length, option_map, IfSome};
 ghost use Rattle.std.specs.Char.{is_ascii_digit};
@@ -8,21 +8,21 @@ ghost use Rattle.directory_requests.specs.Items.{items_in, bytes_in};
 
 use memchr::memchr;
 
-/// How many entries are listed where the query doesn't say.
+/// The number of entries that are listed where the query doesn't say.
 const USUAL_LIMIT: u32 = 32;
 
-/// How many are listed at most.
+/// The most that are listed.
 const GREATEST_LIMIT: u32 = 100;
 
-/// The entries that are listed: how many are left out before them, and how many there are at most.
+/// The entries that are listed: the number left out before them, and the most that there are.
 #[derive(Clone, Copy, Debug, PartialEq, Eq, Drop)]
 pub struct Window {
     pub offset: u32,
     pub limit: u32,
 }
 
-/// What a query asks for by its items `offset` and `limit`, of which the first of each name counts. None: one of them is
-/// no number of one to nine digits, or the limit is 0.
+/// The window that a query asks for by its items `offset` and `limit`, of which the first of each name counts. None:
+/// one of them is no number of one to nine digits, or the limit is 0.
 pub fn window_of(query: &[u8]) -> Option<Window>
     ensures window { result ≡ spec.window_of query.now }
     ensures some { IfSome result (λ w. 1 ≤ w.limit) }
@@ -54,7 +54,7 @@ fn value_in<'q>(query: &'q [u8], name: &[u8]) -> Option<&'q [u8]>
     None
 }
 
-/// The first item, and what the others are in, if there are others.
+/// The first item, and the bytes of the others, if there are others.
 fn first_item(items: &[u8]) -> (&[u8], Option<&[u8]>)
     ensures items { spec.items_of items.now ≡ result.0.now ∷ items_in result.1 }
     ensures shorter { bytes_in result.1 ≤ length items.now }
@@ -67,7 +67,7 @@ fn first_item(items: &[u8]) -> (&[u8], Option<&[u8]>)
     }
 }
 
-/// What is before the first `=`, and what is behind it; where there is none, all bytes and none.
+/// The bytes before the first `=`, and those behind it; where there is none, all bytes and none.
 fn cut(item: &[u8]) -> (&[u8], &[u8])
     ensures name { result.0.now ≡ spec.name_of item.now }
     ensures value { result.1.now ≡ spec.value_of item.now }
@@ -105,6 +105,7 @@ fn number_or(otherwise: u32, text: Option<&[u8]>) -> Option<u32>
 fn number_in(text: &[u8]) -> Option<u32>
     ensures { result ≡ spec.number_in text.now }
 {
+    // A match and not `ok()?`, since the proof cites that the bytes aren't UTF-8.
     match str::from_utf8(text) {
         Ok(text) => number_of(text),
         Err(_) => None,

@@ -5,10 +5,10 @@ use servient_edge::{Dialled, Found, MioNet, Net, What};
 use std::net::TcpListener;
 use std::test::Fail;
 
-/// How many events are taken at most until the one that is awaited comes.
+/// The most events that are taken until the one that is awaited comes.
 const PATIENCE: u32 = 20;
 
-/// What comes of dialling. For the prover: it has no clause, as `event` has none.
+/// The answer to dialling. It has no clause, so that its callers are proved without those of `dial`, as with `event`.
 fn dialled(rt: &HostRuntime, net: &mut MioNet<HostRuntime>, host: &str, port: u16) -> Dialled {
     net.dial(rt.alloc(), host, port)
 }
@@ -74,10 +74,10 @@ fn a_name_with_two_addresses_is_reached_and_may_end(rt: HostRuntime) -> Result<(
     dial_twice(&rt, &mut net)
 }
 
-/// How many connections wait at a listener at most, with those that the system lets wait besides.
+/// The most connections that wait at a listener, with those that the system lets wait besides.
 const WAITING: u32 = 192;
 
-/// How many connections a network has.
+/// The number of connections that a network has.
 const NUMBERS: u32 = 64;
 
 /// Dials once more: from a network that has a number left, if so many dialled before.

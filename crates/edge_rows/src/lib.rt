@@ -1,5 +1,5 @@
-//! Tests of the network over the sockets of the machine. What else the outside and the handlers do is in the
-//! tables of `edge_tables`.
+//! Tests of the network over the sockets of the machine. The rest of the outside and the handlers are in the tables of
+//! `edge_tables`.
 #![tactic(auto)]
 
 #[cfg(test)]

@@ -1,15 +1,15 @@
-//! Networks that listen at ports that were free, and what comes of them. Whoever makes a network lends it to what is tried
-//! with it: a function that owns one is dear to prove where it may end early.
+//! Networks that listen at ports that were free, and their events. Whoever makes a network lends it to its trial, since
+//! a function that owns one is dear to prove where it may end early.
 
 use servient_edge::{Listened, MioNet, Net, Next, Place, What};
 use std::net::{TcpListener, TcpStream, UdpSocket};
 use std::test::Fail;
 use wot_json::Text;
 
-/// How many events are taken at most until the one that is awaited comes. A tick comes each second.
+/// The most events that are taken until the one that is awaited comes. A tick comes each second.
 const PATIENCE: u32 = 20;
 
-/// How many pairs of ports are tried.
+/// The number of pairs of ports that are tried.
 const TRIES: u32 = 5;
 
 /// The ports at which a network listens.
@@ -74,8 +74,8 @@ fn listens_once(
     Ok(true)
 }
 
-/// What comes next, if the network doesn't fail. For the prover: it has no clause, so that its callers are proved without
-/// those of `next` on numbers, at which they don't look.
+/// The next event, if the network doesn't fail. It has no clause, so that its callers are proved without those of
+/// `next` on numbers, at which they don't look.
 pub fn event(net: &mut MioNet<HostRuntime>, buffer: &mut [u8; 4096]) -> Option<What> {
     match net.next(buffer) {
         Next::Got(event) => Some(event.what),
@@ -83,7 +83,7 @@ pub fn event(net: &mut MioNet<HostRuntime>, buffer: &mut [u8; 4096]) -> Option<W
     }
 }
 
-/// What comes next but ticks.
+/// The next event but ticks.
 pub fn next(net: &mut MioNet<HostRuntime>, buffer: &mut [u8; 4096]) -> Result<What, Fail> {
     for _ in 0..PATIENCE {
         match event(net, buffer) {
@@ -95,7 +95,7 @@ pub fn next(net: &mut MioNet<HostRuntime>, buffer: &mut [u8; 4096]) -> Result<Wh
     Err("nothing came")?
 }
 
-/// What comes next but ticks is this.
+/// The next event but ticks is this.
 pub fn expect(net: &mut MioNet<HostRuntime>, what: What) -> Result<(), Fail> {
     let mut buffer = [0; 4096];
     if next(net, &mut buffer)? != what {

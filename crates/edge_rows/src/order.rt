@@ -1,4 +1,4 @@
-//! What is sent on many connections, and after a pause, comes whole, in order and on its own connection.
+//! Bytes that are sent on many connections, and after a pause, come whole, in order and on their own connection.
 
 use crate::listening::{Ports, connected, connected_as, event, listen_on_free_ports, next};
 use servient_edge::{MioNet, Net, What};
@@ -27,7 +27,7 @@ fn send_numbers(peers: &mut Vec<TcpStream>) -> Result<(), Fail> {
     Ok(())
 }
 
-/// Each peer gets what was sent in answer to its number.
+/// Each peer gets the answer to its number.
 fn get_answers(rt: &HostRuntime, peers: &mut Vec<TcpStream>) -> Result<(), Fail> {
     let mut number: u8 = 0;
     for peer in peers.iter_mut() {
@@ -64,18 +64,18 @@ fn each_of_64_connections_has_its_own_reply(rt: HostRuntime) -> Result<(), Fail>
     send_and_answer(&rt, &mut net)
 }
 
-/// What is sent: 96 pieces of 65,536 bytes, each of which is its number. Over the loopback a socket takes some 2.5 to 4.3
-/// MB of them where nobody reads, so that more than nothing and no more than 4,194,304 bytes are kept.
+/// The bytes that are sent: 96 pieces of 65,536 bytes, each of which is its number. Over the loopback a socket takes
+/// some 2.5 to 4.3 MB of them where nobody reads, so that more than nothing and no more than 4,194,304 bytes are kept.
 const PIECE: u64 = 65_536;
 
 const PIECES: u8 = 96;
 
 const WHOLE: u64 = 6_291_456;
 
-/// How many ticks the peer reads nothing: longer than a closed connection lingers.
+/// The number of ticks for which the peer reads nothing: longer than a closed connection lingers.
 const PAUSE: u32 = 4;
 
-/// How often something is read at most.
+/// The most reads.
 const READS: u32 = 2500;
 
 /// The place after some bytes, each of which must be that of its place.
@@ -99,8 +99,8 @@ fn send_pieces(rt: &HostRuntime, net: &mut MioNet<HostRuntime>, c: u32) -> Resul
     Ok(())
 }
 
-/// How many bytes come, each of which must be that of its place. Between the reads another peer sends a byte, so that the
-/// network has something to give.
+/// The number of bytes that come, each of which must be that of its place. Between the reads another peer sends a byte,
+/// so that the network has something to give.
 fn read_pieces(
     net: &mut MioNet<HostRuntime>,
     peer: &mut TcpStream,
@@ -133,7 +133,7 @@ fn pause(net: &mut MioNet<HostRuntime>) -> Result<(), Fail> {
     Ok(())
 }
 
-/// Reads after a pause all that was sent before it.
+/// Reads after a pause all bytes that were sent before it.
 fn read_after_pause(
     rt: &HostRuntime,
     net: &mut MioNet<HostRuntime>,

@@ -8,7 +8,7 @@ use std::test::Fail;
 use std::thread::sleep;
 use std::time::{Duration, Instant};
 
-/// What came so far.
+/// The events so far.
 #[derive(Drop)]
 struct Counts {
     ticks: u32,
@@ -16,7 +16,7 @@ struct Counts {
     datagrams: u32,
 }
 
-/// For how many milliseconds each tick is served: longer than a second, after which another is due.
+/// The milliseconds for which each tick is served: longer than a second, after which another is due.
 const SLOW: u64 = 1500;
 
 /// Takes an event and serves it: a tick slowly, and to all else its peer sends something more.
@@ -103,10 +103,10 @@ fn slow_ticks_leave_room_for_all_else(rt: HostRuntime) -> Result<(), Fail> {
     serve_slowly(&rt, &mut net)
 }
 
-/// How many connections have something, beside a flood.
+/// The number of connections that have something, beside a flood.
 const OTHERS: u32 = 20;
 
-/// How many events are taken at most until each of them was heard: 8 datagrams before each. Nobody waits for a second.
+/// The most events that are taken until each of them was heard: 8 datagrams before each. Nobody waits for a second.
 const EVENTS: u32 = 200;
 
 /// Each peer sends a byte.
@@ -117,7 +117,7 @@ fn write_to_all(peers: &mut Vec<TcpStream>) -> Result<(), Fail> {
     Ok(())
 }
 
-/// How many connections were heard while a datagram came before each event.
+/// The number of connections that were heard while a datagram came before each event.
 fn heard_beside(net: &mut MioNet<HostRuntime>, socket: &UdpSocket) -> Result<u32, Fail> {
     let mut buffer = [0; 4096];
     let mut heard: u32 = 0;

@@ -7,10 +7,10 @@ use std::net::{TcpStream, UdpSocket};
 use std::test::Fail;
 use std::time::Duration;
 
-/// How many ticks in turn show that nothing more is opened.
+/// The number of ticks in turn that show that nothing more is opened.
 const QUIET: u32 = 3;
 
-/// How many connections are opened until n ticks come in turn.
+/// The number of connections that are opened until n ticks come in turn.
 fn opened(net: &mut MioNet<HostRuntime>, buffer: &mut [u8; 4096]) -> u32 {
     let mut count: u32 = 0;
     let mut ticks: u32 = 0;
@@ -108,7 +108,7 @@ fn datagrams_come_and_go_until_traffic_ends(rt: HostRuntime) -> Result<(), Fail>
     ask_and_stop(&rt, &mut net)
 }
 
-/// How many bytes are sent at once to a peer that doesn't read, and how often.
+/// The number of bytes that are sent at once to a peer that doesn't read, and the number of times.
 const PIECE: usize = 1_048_576;
 
 const PIECES: u32 = 64;
@@ -122,7 +122,7 @@ fn send_too_much(rt: &HostRuntime, net: &mut MioNet<HostRuntime>) -> Result<(), 
     expect(net, What::Ended(0))
 }
 
-/// Its number is that of another connection, for which what is sent now is meant.
+/// Its number is that of another connection, for which the bytes that are sent now are meant.
 fn connect_another(
     rt: &HostRuntime,
     net: &mut MioNet<HostRuntime>,

@@ -30,7 +30,7 @@ fn held_of(alloc: Global, history: &str) -> Result<Held, AllocError> {
     Ok(held)
 }
 
-/// What was read.
+/// The answer of a read.
 pub fn put_got(text: &mut String, got: Got, bytes: &[u8]) -> Result<(), AllocError> {
     write!(text, "{got:?}")?;
     if got == Got::Whole {

@@ -101,7 +101,7 @@ fn put_step(
     Ok(number)
 }
 
-/// Writes steps and what comes of them.
+/// Writes steps with their outcomes.
 fn put_steps(
     text: &mut String,
     alloc: Global,

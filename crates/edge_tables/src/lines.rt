@@ -1,17 +1,17 @@
-//! Lines of histories, and what they hold in many tables.
+//! Lines of histories, and the parts that many tables have in them.
 
 use case_notation::number;
 use coap_msg::Endpoint;
 use servient_outside::Calls;
 use std::alloc::{AllocError, Global};
 
-/// Writes a line that is no step.
+/// Writes a line that is no step. The text is lent, since a function pays at each early exit for what it owns.
 pub fn put_words(text: &mut String, line: &str) -> Result<(), AllocError> {
     text.push_str(line)?;
     text.push_str("\n")
 }
 
-/// Writes a step up to what comes of it.
+/// Writes a step up to its outcome.
 pub fn put_given(text: &mut String, step: &str) -> Result<(), AllocError> {
     text.push_str(step)?;
     text.push_str(" => ")

@@ -1,9 +1,9 @@
 //! Tables of the outside and of the handlers in memory: handlers in a rack, files in memory and of the machine,
 //! outputs, and the network in memory. Each argument names a file: the table of that name.
 //!
-//! Lines with ` => ` are steps of a history, which begins at the top and anew after each empty line: what is done, and
-//! what comes of it. The program prints each step with what does come of it, and each other line as it is: so it prints
-//! its files, if all is right.
+//! Lines with ` => ` are steps of a history, which begins at the top and anew after each empty line: a deed, and its
+//! outcome. The program prints each step with its real outcome, and each other line as it is, so that it prints its
+//! files, if all is right.
 #![tactic(auto)]
 
 mod calls;

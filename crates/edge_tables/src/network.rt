@@ -1,6 +1,6 @@
-//! The network in memory: lines `event MOMENT ..` with what comes, lines `fails N` with the calls that fail;
-//! and steps: `next`, `listen ..`, `datagram ..`, `send ..`, `close ..`, `dial ..`, `find ..`, and `acts` for
-//! all that was done to it.
+//! The network in memory: lines `event MOMENT ..` with the events to come, lines `fails N` with the calls that fail;
+//! and steps: `next`, `listen ..`, `datagram ..`, `send ..`, `close ..`, `dial ..`, `find ..`, and `acts` for all acts
+//! on it.
 
 ghost use Rattle.std.specs.Prelude.{◌<◌, IfOk, IfSome};
 ghost use Rattle.servient_outside.specs.Network.{IsWithinBounds, MayCome};
@@ -17,7 +17,7 @@ use wot_json::{Bytes, Text};
 /// The latest moment of an event.
 const LAST_MOMENT: u64 = 1_000_000_000_000_000;
 
-/// How many connections there are.
+/// The number of connections.
 const CONNECTIONS: u32 = 64;
 
 /// The number of a connection; 0 where it is none.
@@ -30,7 +30,7 @@ fn connection_of(word: &str) -> u32
     }
 }
 
-/// What comes by these words, with n bytes; a tick where that can't come.
+/// The event of these words, with n bytes; a tick where that can't come.
 fn what_of(word: &str, place: &str, count: usize) -> What
     ensures { MayCome result }
 {
@@ -122,7 +122,7 @@ fn port_of(field: Option<&str>) -> u16 {
     u16::try_from(number(field)).unwrap_or(0)
 }
 
-/// Listens, and says what is answered.
+/// Listens, and says the answer.
 fn put_listened(
     text: &mut String,
     alloc: Global,
@@ -184,7 +184,7 @@ fn put_act(text: &mut String, act: &Act) -> Result<(), AllocError> {
     }
 }
 
-/// Writes what was done, and how much of it was lost out of memory.
+/// Writes the acts, and the number of those that were lost out of memory.
 fn put_acts(text: &mut String, net: &NetMemory) -> Result<(), AllocError> {
     for act in net.acts().iter() {
         put_act(text, act)?;
@@ -199,7 +199,7 @@ fn host_of(words: &str) -> (&str, u16) {
     (host, port_of(Some(port)))
 }
 
-/// Does a step that is answered by nothing.
+/// Does a step that has no answer.
 fn act_on(alloc: Global, net: &mut NetMemory, word: &str, words: &str) -> Result<(), AllocError> {
     match word {
         "datagram" => send_datagram(alloc, net, words),

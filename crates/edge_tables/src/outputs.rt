@@ -1,5 +1,5 @@
-//! Outputs in memory: a line `room N`, lines `fails N` with the calls that fail; and steps: `put BYTES`,
-//! and what is written then.
+//! Outputs in memory: a line `room N`, lines `fails N` with the calls that fail; and steps: `put BYTES`, and the bytes
+//! that are written then.
 
 use crate::lines::{fails_of, put_given, put_words, size_of};
 use crate::runs;

@@ -1,13 +1,13 @@
-//! Bytes in which one that comes many times in a row is written once, with how often it comes: `x\*300;`.
+//! Bytes in which one that comes many times in a row is written once, with the number of times: `x\*300;`.
 
 use case_notation::put as put_bytes;
 use std::alloc::AllocError;
 use std::fmt::Write;
 
-/// How often a byte must come in a row to be written once.
+/// The number of times that a byte must come in a row to be written once.
 const MANY: usize = 40;
 
-/// A byte, and how often it comes in a row.
+/// A byte, and the number of times that it comes in a row.
 #[derive(Clone, Copy)]
 struct Run {
     byte: u8,

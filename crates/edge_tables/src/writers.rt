@@ -1,5 +1,5 @@
-//! Outputs over a writer: a row is `vector` or `room N` and pieces with `; ` between them; what each is answered, and
-//! what is then written to the vector, or to the front of a slice of n bytes.
+//! Outputs over a writer: a row is `vector` or `room N` and pieces with `; ` between them; the answer to each, and the
+//! bytes that are then in the vector, or at the front of a slice of n bytes.
 
 use crate::lines::{put_given, put_words, size_of};
 use crate::runs;

@@ -6,20 +6,20 @@ use coap_exchange::{Exchanges, Met};
 use coap_msg::{Endpoint, Type4};
 use std::test::Fail;
 
-/// How many message IDs there are.
+/// The number of message IDs.
 const IDS: u32 = 65_536;
 
-/// How many hosts send besides the first one.
+/// The number of hosts that send besides the first one.
 const OTHERS: u32 = 61;
 
-/// What the requests of a host met.
+/// The verdicts on the requests of a host.
 #[derive(Clone, Copy, Debug, PartialEq, Eq)]
 struct Counts {
     fresh: u32,
     full: u32,
 }
 
-/// Lets a host send a Confirmable request with each message ID, all at the moment 0, and counts what they meet.
+/// Lets a host send a Confirmable request with each message ID, all at the moment 0, and counts the verdicts.
 fn send_all(exchanges: &mut Exchanges, host: u32) -> Counts
     requires { exchanges.old.moment ≤ 0 }
     ensures { exchanges.new.moment ≤ 0 }
@@ -39,7 +39,7 @@ fn send_all(exchanges: &mut Exchanges, host: u32) -> Counts
     counts
 }
 
-/// Counts what the requests of the other hosts meet.
+/// Counts the verdicts on the requests of the other hosts.
 fn send_from_others(exchanges: &mut Exchanges) -> Counts
     requires { exchanges.old.moment ≤ 0 }
 {

@@ -1,4 +1,4 @@
--- What is seen of the code's entries.
+-- The table, from the code's entries.
 use Rattle.std.proofs.Common.{◌-◌, not, ◌++◌, vec_capacity, length-append, ◌≡◌, ◌+◌, ◌≤◌, ◌<◌, ◌==◌, ℕ, Bool, true, false, cond, List, [], ◌∷◌, map, length, get_or, set, Option, Some, None, ◌≢◌, ◌∙◌, sym, refl, ap, arith}
 use Rattle.std.specs.Option.{option_map}
 use Rattle.std.specs.Prelude.{nat_lt}
@@ -67,7 +67,7 @@ keeps_reply replies slot bytes h (e ∷ es) =
 pub free_is_empty : (x : Inside) → (slot : ℕ) → times_used slot x.entries.items ≡ 0 → exchange_in slot (table_of x) ≡ None
 free_is_empty x slot h = in_slot x slot ∙ ap (option_map (exchange_of x.replies.items)) (uncounted_is_not_found (λ e. e.slot == slot) x.entries.items h)
 
--- what is put into a slot that no entry has changes no exchange
+-- a reply that is put into a slot that no entry has changes no exchange
 unused_at : (n : ℕ) (b : Bool) → cond b 1 0 + n ≡ 0 → (b ≡ false) × (n ≡ 0)
 unused_at n true h = absurd (omega arith)
 unused_at n false h = (refl, omega arith)
@@ -85,9 +85,9 @@ unused_changes_nothing replies slot r (e ∷ es) h =
     let rest : map (exchange_of (set replies slot r)) es ≡ map (exchange_of replies) es = unused_changes_nothing replies slot r es split.1 in
     cc
 
--- ---- what a request duplicates
+-- ---- the exchange that a request duplicates
 
--- among entries that all live, what a request duplicates is what has its endpoint and message ID
+-- among entries that all live, a request duplicates the one that has its endpoint and message ID
 tests_agree : (x : Inside) (a : Arrival) (es : List Entry) → a.moment ≡ x.moment → AllByRecursion (λ e. lives x.moment (arrival_of e) ≡ true) es
     → AllByRecursion (λ e. is_duplicate_of a (arrival_of e) ≡ is_of a.from a.id e) es
 tests_agree x a [] m h = tt
@@ -208,7 +208,7 @@ stays_kept_later x y now kept entries free capacity moment replies entries_room 
 
 -- ---- a reply
 
--- the reply of the exchange in a slot is what is in the slot's place
+-- the reply of the exchange in a slot is in the slot's place
 pub reply_in_place : (x : Inside) (slot : ℕ) (e : Exchange) → exchange_in slot (table_of x) ≡ Some e → e.reply ≡ get_or x.replies.items slot None
 reply_in_place x slot e h =
     let found = entry_in x slot e h in

@@ -1,4 +1,4 @@
--- Inside: how the plain list keeps its exchanges.
+-- Inside: the entries and slots in which the plain list keeps its exchanges.
 use Rattle.std.specs.Prelude.{◌≡◌, ◌+◌, ◌≤◌, ◌==◌, ◌&&◌, ℕ, Bool, List, length, map, All, Option, None, slice_index_or, vec_capacity, true}
 use Rattle.coap_msg.specs.declared.endpoint.Endpoint.{Endpoint}
 use Rattle.coap_exchange.specs.Admission.{Arrival, lives}
@@ -19,19 +19,19 @@ is_of from id e = from.host == e.from.host && from.port == e.from.port && id == 
 abbrev pub exchange_of : List (Option (List ℕ)) → Entry → Exchange
 exchange_of replies e = record { arrival = arrival_of e; slot = e.slot; reply = slice_index_or replies e.slot None }
 
--- what is seen
+-- the table that is seen
 abbrev pub table_of : Inside → Table
 table_of x = record { capacity = x.capacity; moment = x.moment; exchanges = map (exchange_of x.replies.items) x.entries.items }
 
--- how often a slot is among entries, and among free slots
+-- the number of times that a slot is among entries, and among free slots
 abbrev pub times_used : ℕ → List Entry → ℕ
 times_used slot entries = times (λ e. e.slot == slot) entries
 
 abbrev pub times_free : ℕ → List ℕ → ℕ
 times_free slot slots = times (λ s. s == slot) slots
 
--- what always holds of it: all entries live, each has a slot of its own with a place for a reply, and there is room for
--- as many as may live
+-- the invariant: all entries live, each has a slot of its own with a place for a reply, and there is room for as many
+-- as may live
 pub record IsKept (x : Inside) : Type 0 where
   pub living : All (λ e. lives x.moment (arrival_of e) ≡ true) x.entries.items
   pub slots : (s : ℕ) → times_used s x.entries.items + times_free s x.free.items ≡ once_below s x.capacity

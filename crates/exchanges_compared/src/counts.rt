@@ -1,6 +1,6 @@
-//! How many requests met what.
+//! The counts of verdicts.
 
-/// How many lines of a text say what.
+/// The numbers of lines of a text with each verdict.
 #[derive(Clone, Copy)]
 pub struct Counts {
     /// Requests that were admitted.

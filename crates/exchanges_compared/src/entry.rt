@@ -8,13 +8,13 @@ use coap_msg::{Endpoint, RequestType};
 /// A request that was admitted, and the slot of its reply.
 #[derive(Clone, Copy)]
 pub struct Entry {
-    /// When it came, in milliseconds.
+    /// The moment at which it came, in milliseconds.
     pub moment: u64,
-    /// Where it came from.
+    /// The endpoint from which it came.
     pub from: Endpoint,
     /// Its message ID.
     pub id: u16,
-    /// How it was sent.
+    /// The type of its message.
     pub kind: RequestType,
     /// The slot of its reply.
     pub slot: u32,
@@ -40,7 +40,7 @@ impl Entry {
     }
 }
 
-/// How long the message ID of a request may be in use, in milliseconds (RFC 7252, section 4.8.2).
+/// The time for which the message ID of a request may be in use, in milliseconds (RFC 7252, section 4.8.2).
 fn lifetime_of(kind: RequestType) -> u64
     ensures { result ≡ lifetime kind }
 {

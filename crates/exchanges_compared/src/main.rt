@@ -1,7 +1,7 @@
 //! Compares two tables of exchanges: `Exchanges` of `coap_exchange`, whose slots are linked, and a plain list with the
 //! same contract. Both get the same requests and the same replies to keep, in tables in which 16 exchanges may live,
-//! and the program prints how many requests met what. What a request meets is a line, with the reply that was
-//! kept and without its slot, since slots may differ; the lines of both have to be the same.
+//! and the program prints the counts of verdicts. A verdict is a line, with the reply that was kept and without its
+//! slot, since slots may differ; the lines of both have to be the same.
 //!
 //! The counts that it must print come from `tools/exchange-counts`, a third table in another language over the same
 //! requests.
@@ -19,10 +19,10 @@ use requests::Draws;
 use std::alloc::{AllocError, Global};
 use std::io;
 
-/// How many requests both tables get.
+/// The number of requests that both tables get.
 const REQUESTS: u32 = 8_000;
 
-/// Hands the same requests to both tables, and writes what they meet.
+/// Hands the same requests to both tables, and writes their verdicts.
 fn compare(linked: &mut String, plain: &mut String, alloc: Global) -> Result<(), AllocError> {
     let mut linked_table = Exchanges::new(alloc, 16)?;
     let mut plain_table = PlainExchanges::new(alloc, 16)?;

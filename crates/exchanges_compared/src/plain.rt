@@ -1,5 +1,5 @@
-//! A table of exchanges as a plain list: what `Exchanges` of `coap_exchange` does, with the same contract, by a walk
-//! over all that live.
+//! A table of exchanges as a plain list, with the contract of `Exchanges` of `coap_exchange`, by a walk over all that
+//! live.
 
 ghost use Rattle.std.specs.Prelude.{◌≡◌, ◌≤◌, ◌+◌, ◌++◌, ℕ, map, filter, find, not, length, IfOk, vec_capacity};
 ghost use Rattle.coap_exchange.specs.Admission.{lives};
@@ -13,8 +13,8 @@ use coap_msg::{BoundedBytes, Endpoint, LONGEST_MESSAGE, RequestType, Type4};
 use std::alloc::Global;
 use std::marker::Model;
 
-/// The exchanges of a server. Contracts see how many may live, the last moment that was handed in, and the exchanges
-/// that live then with their replies (`Table` of specs/Table.antt).
+/// The exchanges of a server. Contracts see the number that may live, the last moment that was handed in, and the
+/// exchanges that live then with their replies (`Table` of specs/Table.antt).
 ///
 /// Entries are in the order in which their requests were admitted. Replies have fixed places, by slot, so that a call
 /// moves entries alone.
@@ -63,14 +63,15 @@ impl PlainExchanges {
         })
     }
 
-    /// Judges a request that came at the moment `now`, in milliseconds. Only what is `Fresh` makes a new exchange.
+    /// Judges a request that came at the moment `now`, in milliseconds. Only a request that is `Fresh` makes a new
+    /// exchange.
     pub fn meet(&mut self, from: Endpoint, id: u16, kind: Type4, now: u64) -> Met
         requires kind { (kind ≡ Con) ⊎ (kind ≡ Non) }
         requires now { self.old.moment ≤ now }
         ensures met { Meets (at_moment now self.old) (record { moment = now; from = from; id = id; kind = request_type kind }) result self.new }
         ensures moment { self.new.moment ≡ now }
 
-        // What the slots are for.
+        // The uses of the slots.
         ensures awaited { (slot : ℕ) → result ≡ Met.Fresh slot → IsAwaited slot self.new }
         ensures kept { (slot : ℕ) → result ≡ Met.Repeat (Some slot) → HasReply slot self.new }
     {

@@ -7,9 +7,9 @@ use coap_msg::Endpoint;
 /// A request, and the reply to it.
 #[derive(Clone, Copy)]
 pub struct Request {
-    /// How long after the request before it comes, in milliseconds.
+    /// The time from the request before it to this one, in milliseconds.
     pub later: u64,
-    /// Where it comes from.
+    /// The endpoint from which it comes.
     pub from: Endpoint,
     /// Its message ID.
     pub id: u16,
@@ -21,7 +21,7 @@ pub struct Request {
     pub reply: [u8; 4],
 }
 
-/// A generator of numbers: x becomes 1103515245 x + 12345 modulo 2^31, and what is drawn is x / 2^16.
+/// A generator of numbers: x becomes 1103515245 x + 12345 modulo 2^31, and x / 2^16 is drawn.
 #[derive(Drop)]
 pub struct Draws {
     state: u64,
@@ -42,8 +42,8 @@ impl Draws {
         self.state / (1 << 16) % limit
     }
 
-    /// The next request. Of 256 of them seven or so come later than the one before: by one millisecond, or by what is
-    /// one less than a lifetime, a lifetime or one more, or by what lies between both lifetimes.
+    /// The next request. Of 256 of them seven or so come later than the one before: by one millisecond, or by one less
+    /// than a lifetime, a lifetime or one more, or by a time between both lifetimes.
     pub fn request(&mut self, number: u32) -> Request {
         let later = match self.draw(256) {
             0 => 1,

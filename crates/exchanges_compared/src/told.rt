@@ -1,4 +1,4 @@
-//! What requests meet, as lines of a text.
+//! The verdicts on requests, as lines of a text.
 
 ghost use Rattle.std.specs.Prelude.{◌≡◌, ◌≤◌, ◌⊎◌};
 ghost use Rattle.coap_msg.specs.declared.message.Type4.TheVariants.{Con, Non};
@@ -16,14 +16,14 @@ fn message_type(confirmable: bool) -> Type4
     if confirmable { Type4::Con } else { Type4::Non }
 }
 
-/// A request was repeated, and this is the reply that was kept.
+/// Writes that a request was a duplicate, and this reply, which was kept.
 fn put_reply(text: &mut String, reply: &[u8]) -> Result<(), AllocError> {
     text.push_str("repeated: ")?;
     case_notation::put(text, reply)?;
     text.push_str("\n")
 }
 
-/// Writes what a request meets in the table of linked slots, and keeps its reply.
+/// Writes the verdict of the table of linked slots on a request, and keeps its reply.
 pub fn put_linked(
     text: &mut String,
     exchanges: &mut Exchanges,
@@ -51,7 +51,7 @@ pub fn put_linked(
     }
 }
 
-/// Writes what a request meets in the plain list, and keeps its reply.
+/// Writes the verdict of the plain list on a request, and keeps its reply.
 pub fn put_plain(
     text: &mut String,
     exchanges: &mut PlainExchanges,

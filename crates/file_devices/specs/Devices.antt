@@ -1,4 +1,4 @@
--- What the handlers of devices behind files answer.
+-- The answers of the handlers of devices behind files.
 use Rattle.std.specs.Prelude.{◌≡◌, ◌≢◌, ◌≤◌, ◌<◌, ℕ, List, Option, Some, None, IfSome, IsSomeAnd, Result, Ok, Err, length}
 use Rattle.wot_json.specs.Meaning.{json_of}
 use Rattle.wot_json.specs.declared.tree.Tree.{Tree}
@@ -24,7 +24,7 @@ fault_number fault.NoText = 5
 
 -- ---- looking
 
--- What a look at the file of this name finds. It changes nothing, but that a failed one is counted.
+-- A look at the file of this name finds this. It changes nothing, but that a failed one is counted.
 pub data Finds (before now : FilesSeen) (name : List ℕ) (way : Notation) (found : Result Tree FileFault) : Type 0 where
   content : (bytes : List ℕ) → length bytes ≤ longest → IfSome before.held (λ files. content_of files name ≡ Some bytes)
       → ComesTo way bytes found → now ≡ before → Finds before now name way found
@@ -35,7 +35,8 @@ pub data Finds (before now : FilesSeen) (name : List ℕ) (way : Notation) (foun
 
 -- ---- writing
 
--- Putting this text into the file of this name: it is written once. Where there is no text to write, nothing is written.
+-- Putting this text into the file of this name: it is written once. Where there is no text to write, nothing is
+-- written.
 pub data PutsText (before now : FilesSeen) (name text : List ℕ) (put : Result (Unit {0}) FileFault) : Type 0 where
   was_written : Writes before now name text wrote.Done → put ≡ Ok tt → PutsText before now name text put
   was_absent : Writes before now name text wrote.Absent → put ≡ Err fault.Absent → PutsText before now name text put
@@ -47,12 +48,12 @@ Puts before now name (Some text) put = PutsText before now name text put
 
 -- ---- properties
 
--- what a property answers to a Read that found this
+-- the answer of a property to a Read that found this
 abbrev pub value_answer : Result Tree FileFault → Answer
 value_answer (Ok v) = Value v
 value_answer (Err f) = DeviceFault (fault_number f)
 
--- what a device answers to what was put, where the answer is this if that was done
+-- the answer of a device to a write of this result, where it is this if that was done
 abbrev pub put_answer : Answer → Result (Unit {0}) FileFault → Answer
 put_answer answer (Ok u) = answer
 put_answer answer (Err f) = DeviceFault (fault_number f)
@@ -112,8 +113,8 @@ pub data FiresIfOther (before v : Tree) (answer : Answer) : Type 0 where
   same : json_of before ≡ json_of v → answer ≡ Quiet → FiresIfOther before v answer
   other : json_of before ≢ json_of v → answer ≡ Fired v → FiresIfOther before v answer
 
--- What a Poll answers that finds this, where the last one that found a value found that, and what the last one is then.
--- The first has nothing to compare with, and one that fails leaves the last one.
+-- The answer of a Poll that finds this, where the last one that found a value found that, and the last one then. The
+-- first has nothing to compare with, and one that fails leaves the last one.
 abbrev pub EventPolls : Option Tree → Option Tree → Result Tree FileFault → Answer → Type 0
 EventPolls last next (Err f) answer = (next ≡ last) × (answer ≡ DeviceFault (fault_number f))
 EventPolls None next (Ok v) answer = (next ≡ Some v) × (answer ≡ Quiet)

@@ -1,5 +1,5 @@
--- The list of devices: for each device the slot of its handler, its file, and how the file's content writes a value. Its
--- format is the product's own; docs/DEVICES.md retells it.
+-- The list of devices: for each device the slot of its handler, its file, and how the file's content writes a value.
+-- Its format is the product's own; docs/DEVICES.md retells it.
 --
 --     [{"slot": 0, "property": "/sys/class/leds/lamp/brightness"}, {"slot": 48, "event": "door", "as": "text"}]
 use Rattle.std.specs.Prelude.{◌≡◌, ℕ, ◌+◌, pos, ◌==◌, nat_le, List, [], ◌∷◌, ◌++◌, codes, Option, Some, None, option_and_then, Result, Ok, Err, if◌then◌else◌}
@@ -25,7 +25,7 @@ abbrev pub path_in : Json → Option (List ℕ)
 path_in (string (b ∷ bytes)) = Some (b ∷ bytes)
 path_in v = None
 
--- how a content writes a value
+-- the notation of a content
 abbrev pub notation_in : Json → Option Notation
 notation_in (string text) =
     if bytes_eq text (codes "json") then Some notation.Json
@@ -67,8 +67,8 @@ member_of kind.Event = codes "event"
 
 -- ---- entries
 
--- What an entry of this kind says, or the pointer to the first of its members that is wrong, in the order of their names:
--- action, as, event, property, slot.
+-- The device of an entry of this kind, or the pointer to the first of its members that is wrong, in the order of their
+-- names: action, as, event, property, slot.
 abbrev pub entry_by : Kind → Option (List ℕ) → Option Notation → Option ℕ → Result Entry (List ℕ)
 entry_by kind.Action None way slot = Err (codes "/action")
 entry_by kind.Action (Some path) None slot = Err (codes "/as")
@@ -79,7 +79,7 @@ entry_by kind.Property None (Some way) slot = Err (codes "/property")
 entry_by k (Some path) (Some way) None = Err (codes "/slot")
 entry_by k (Some path) (Some way) (Some slot) = Ok (record { slot = slot; kind = k; path = path; notation = way })
 
--- What an entry says after those before it. One that doesn't name just one file is wrong itself.
+-- The device of an entry after those before it. One that doesn't name just one file is wrong itself.
 abbrev pub entry_of : List Entry → Json → Result Entry (List ℕ)
 entry_of before v =
     let member = λ (name : List ℕ). member_named name (members_under v) in

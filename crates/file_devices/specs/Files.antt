@@ -9,7 +9,7 @@ use Rattle.servient_outside.specs.Files.{content_of, AnswersRead}
 use Rattle.file_devices.specs.declared.files.Wrote.{Wrote}
 use Rattle.file_devices.specs.declared.files.Wrote.TheVariants as wrote
 
--- What is seen of files at one time: what they hold, where that is recorded, and how often a call failed.
+-- The view of files at one time: their content, where that is recorded, and the number of calls that failed.
 pub record FilesSeen : Type 0 where
   pub held : Option (List HeldFile)
   pub faults : ℕ
@@ -25,8 +25,8 @@ with_content name content (file ∷ files) =
 pub record Fails (before now : FilesSeen) : Type 0 where
   pub counted : Rose before.faults now.faults
 
--- A read of the file of this name, of which at most `limit` bytes are taken: it changes nothing, and is counted where it
--- failed.
+-- A read of the file of this name, of which at most `limit` bytes are taken: it changes nothing, and is counted where
+-- it failed.
 pub record Reads (before now : FilesSeen) (name : List ℕ) (limit : ℕ) (got : Got) (into : List ℕ) : Type 0 where
   pub answer : AnswersRead before.held name limit got into
   pub same : got ≢ Failed → now ≡ before

@@ -1,4 +1,4 @@
--- What is seen of devices' files in memory.
+-- The view of devices' files in memory.
 use Rattle.std.specs.Prelude.{◌≡◌, ◌≤◌, ◌<◌, ℕ, Bool, List, Some, None, IsSome, length, IsTrue}
 use Rattle.servient_base.specs.Count.{one_more}
 use Rattle.servient_outside.specs.CallCount.{is_failing}
@@ -12,7 +12,7 @@ use Rattle.file_devices.specs.declared.files.Wrote.{Wrote}
 use Rattle.file_devices.specs.declared.files.Wrote.TheVariants as wrote
 use Rattle.file_devices.specs.Files.{FilesSeen, with_content}
 
--- what they hold
+-- their content
 abbrev pub held_files : DeviceFilesMemory → List HeldFile
 held_files f = f.files.items
 

@@ -1,4 +1,4 @@
--- What is seen of the handlers of devices behind files.
+-- The view of the handlers of devices behind files.
 use Rattle.wot_terms.specs.declared.kind.Kind.{Kind}
 use Rattle.wot_terms.specs.declared.kind.Kind.TheVariants.{Property, Action, Event}
 use Rattle.thing_handler.specs.Handler.{Seen}

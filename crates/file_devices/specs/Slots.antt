@@ -1,4 +1,4 @@
--- What is seen of the handler of a slot.
+-- The view of the handler of a slot.
 use Rattle.std.specs.Prelude.{Option, Some, None}
 use Rattle.thing_handler.specs.Handler.{Seen}
 use Rattle.thing_handler.specs.Shipped.{shipped_seen}

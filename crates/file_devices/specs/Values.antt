@@ -1,4 +1,4 @@
--- What the content of a device's file says, and how a value is written into it.
+-- The value of the content of a device's file, and the text that is written of a value.
 use Rattle.std.specs.Prelude.{◌≡◌, ◌≤◌, ◌<◌, ℕ, ◌-◌, List, [], Option, Some, None, Result, Ok, Err, length, drop, take}
 use Rattle.std.specs.Char.{is_ascii_whitespace}
 use Rattle.std.specs.List.{prefix_len, suffix_len}
@@ -23,21 +23,22 @@ trimmed content =
     let rest = drop (prefix_len is_ascii_whitespace content) content in
     take (length rest - suffix_len is_ascii_whitespace rest) rest
 
--- What a trimmed content says: as JSON the value of its text, as a text that text itself; or no value.
+-- A trimmed content says this: as JSON the value of its text, as a text that text itself; or no value.
 abbrev pub Says : Notation → List ℕ → Option Tree → Type 0
 Says notation.Json text (Some v) = tree_of text ≡ Some (json_of v)
 Says notation.Json text None = tree_of text ≡ None
 Says notation.Text text (Some v) = IsUtf8 text × (v ≡ json.Text text)
 Says notation.Text text None = ¬ (IsUtf8 text)
 
--- what a content comes to that isn't too long
+-- the result of a content that isn't too long
 pub data ComesTo (way : Notation) (content : List ℕ) (found : Result Tree FileFault) : Type 0 where
   value : (v : Tree) → Says way (trimmed content) (Some v) → length (json_text v) ≤ longest → found ≡ Ok v → ComesTo way content found
   no_value : Says way (trimmed content) None → found ≡ Err fault.NoValue → ComesTo way content found
   -- a text of many bytes that are escaped may be longer than its content
   long_text : (v : Tree) → Says way (trimmed content) (Some v) → longest < length (json_text v) → found ≡ Err fault.TooLong → ComesTo way content found
 
--- What is written of a value: its JSON text, or the text that it is; of a value that is no text nothing, as a text.
+-- The text that is written of a value: its JSON text, or the text that it is; of a value that is no text none, as a
+-- text.
 abbrev pub text_written : Notation → Tree → Option (List ℕ)
 text_written notation.Json v = Some (json_text v)
 text_written notation.Text json.Null = None
@@ -47,7 +48,7 @@ text_written notation.Text (json.Text t) = Some t
 text_written notation.Text (json.List es) = None
 text_written notation.Text (json.Obj ms) = None
 
--- what is written of an input; without one the file is emptied
+-- the text that is written of an input; without one the file is emptied
 abbrev pub input_written : Notation → Option Tree → Option (List ℕ)
 input_written way None = Some []
 input_written way (Some v) = text_written way v

@@ -15,7 +15,7 @@ use std::alloc::{AllocError, Global};
 use thing_handler::{Answer, CallKind, TurnLog};
 use wot_json::{Bytes, Text, Tree};
 
-/// A device: the name of its file, how the file's content writes a value, the files among which it is, and the turns of
+/// A device: the name of its file, the notation of the file's content, the files among which it is, and the turns of
 /// its handler.
 #[derive(Drop)]
 pub struct Device<D: DeviceFiles> {
@@ -64,7 +64,8 @@ impl<D: DeviceFiles> Device<D> {
         }
     }
 
-    /// A call that writes: its text is written once, and its turn kept. All memory is taken before.
+    /// A call that writes: its text is written once, and its turn kept. All memory is taken before, so that a call that
+    /// is out of memory has written nothing.
     pub fn write(&mut self, alloc: Global, number: u64, what: &CallKind) -> Result<Answer, NoMemory>
         ensures turn { (kind : Kind) → AnswersCall (device_seen kind self.old) (device_seen kind self.new) number what.now result }
         ensures puts { IfOk result (DevicePuts (D.seen self.old.files) (D.seen self.new.files) self.old.name
@@ -109,7 +110,7 @@ fn put_text<D: DeviceFiles>(files: &mut D, name: &str, text: Option<Bytes>) -> R
     }
 }
 
-/// The answer to a call that writes, by what came of it.
+/// The answer to a call that writes, by the result of the write.
 fn answer_to(what: &CallKind, put: Result<(), FileFault>) -> Answer
     ensures { result ≡ put_answer (done_answer what.now) put }
 {

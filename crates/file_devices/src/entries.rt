@@ -1,4 +1,4 @@
-//! The list of devices: which handlers stand for files (docs/DEVICES.md).
+//! The list of devices: the handlers that stand for files (docs/DEVICES.md).
 
 ghost use Rattle.std.specs.Prelude.{◌≡◌, [], ◌∷◌, ◌++◌, option_map, option_and_then, find, ◌==◌, codes, IfOk, OnOk};
 ghost use Rattle.std.specs.List.{list_any};
@@ -12,8 +12,8 @@ use std::marker::Model;
 use thing_handler::Kind;
 use wot_json::{Text, Tree, through_element};
 
-/// A device: the slot of its handler, the kind of its affordance, the path of its file, and how the file's content writes
-/// a value.
+/// A device: the slot of its handler, the kind of its affordance, the path of its file, and the notation of the file's
+/// content.
 #[derive(Debug, Drop)]
 pub struct Entry {
     /// From 0 to 63.
@@ -23,11 +23,11 @@ pub struct Entry {
     pub notation: Notation,
 }
 
-/// Why a tree is no list of devices.
+/// The cause for which a tree is no list of devices.
 #[derive(Debug, Drop)]
 pub enum EntriesFault {
-    /// The pointer to what is wrong first, by entries and then by the names of members: an entry that doesn't name just
-    /// one file, or a member; the empty one where the tree is no list.
+    /// The pointer to the first that is wrong, by entries and then by the names of members: an entry that doesn't name
+    /// just one file, or a member; the empty one where the tree is no list.
     At(Text),
     /// Out of memory.
     NoMemory,
@@ -119,7 +119,7 @@ fn read_list(alloc: Global, items: &[Tree]) -> Result<Entries, EntriesFault>
     Ok(entries)
 }
 
-/// What an entry says after those before it, or the pointer from it to what is wrong.
+/// The device of an entry after those before it, or the pointer from it to the member that is wrong.
 fn entry_in(
     alloc: Global,
     before: &[Entry],
@@ -199,7 +199,7 @@ fn path_in(value: Option<&Tree>) -> Option<&str>
     }
 }
 
-/// How a content writes a value.
+/// The notation of a content.
 fn notation_of(value: Option<&Tree>) -> Option<Notation>
     ensures { result ≡ spec.notation_of (option_map (λ v. json_of v.now) value.entry) }
 {

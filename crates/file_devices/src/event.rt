@@ -21,7 +21,7 @@ pub struct FileEvent<D: DeviceFiles> {
     last: Option<Tree>,
 }
 
-/// What a Poll comes to.
+/// The outcome of a Poll.
 #[derive(Drop)]
 struct Polled {
     answer: Answer,
@@ -51,7 +51,7 @@ impl<D: DeviceFiles> FileEvent<D> {
         &self.device.files
     }
 
-    /// What a Poll comes to.
+    /// The outcome of a Poll.
     fn poll(&mut self, alloc: Global) -> Result<Polled, NoMemory>
         ensures looks { IfOk result (λ polled. EventLooks (D.seen self.old.device.files) (D.seen self.new.device.files)
             self.old.device.name self.old.device.notation self.old.last (option_or polled.found self.old.last) polled.answer) }
@@ -66,7 +66,7 @@ impl<D: DeviceFiles> FileEvent<D> {
     }
 }
 
-/// What a Poll comes to that found this, where `last` was found last.
+/// The outcome of a Poll that found this, where `last` was found last.
 fn judge_found(
     alloc: Global,
     last: &Option<Tree>,
@@ -74,6 +74,7 @@ fn judge_found(
 ) -> Result<Polled, NoMemory>
     ensures { IfOk result (λ polled. EventPolls last.now (option_or polled.found last.now) found polled.answer) }
 {
+    // A match and not `?`, since a fault of the file is an answer too.
     let value = match found {
         Ok(value) => value,
         Err(fault) => {

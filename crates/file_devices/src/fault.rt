@@ -1,9 +1,9 @@
-//! Why a device behind a file has no answer.
+//! The causes for which a device behind a file has no answer.
 
 ghost use Rattle.std.specs.Prelude.{◌≡◌};
 ghost use Rattle.file_devices.specs.Devices.{fault_number};
 
-/// Why a device's file gave no value, or took none.
+/// The cause for which a device's file gave no value, or took none.
 #[derive(Clone, Copy, Debug, PartialEq, Eq)]
 pub enum FileFault {
     /// There is no such file.

@@ -1,4 +1,4 @@
-//! The files of devices: what a read and a write answer, and what is known of them.
+//! The files of devices: the answers of reads and writes, and the view of them in contracts.
 
 use servient_outside::Got;
 use std::alloc::Global;
@@ -19,10 +19,10 @@ pub enum Wrote {
 pub trait DeviceFiles: Drop {
     ghost use Rattle.file_devices.specs.Files.{FilesSeen, Reads, Writes};
 
-    /// What they hold, where that is recorded, and how often a call failed.
+    /// Their content, where that is recorded, and the number of calls that failed.
     ghost seen: { Self → FilesSeen };
 
-    /// Reads a whole file of at most `limit` bytes. After any answer but `Whole` what is in `into` is open, and
+    /// Reads a whole file of at most `limit` bytes. After any answer but `Whole` the content of `into` is open, and
     /// `NoMemory` may come at any call.
     fn read(&mut self, alloc: Global, name: &str, limit: usize, into: &mut Bytes) -> Got
         ensures { Reads (seen self.old) (seen self.new) name.now limit result into.new };

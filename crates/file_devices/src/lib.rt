@@ -1,9 +1,9 @@
-//! Devices behind files, as the handlers of affordances: Linux shows sensors, lamps and pins as files (hwmon, IIO, LEDs,
-//! PWM, thermal zones, 1-wire), and any program can write or read one.
+//! Devices behind files, as the handlers of affordances: Linux shows sensors, lamps and pins as files (hwmon, IIO,
+//! LEDs, PWM, thermal zones, 1-wire), and any program can write or read one.
 //!
 //! A property is read from its file and written into it, an action writes its input, and an event comes about when the
 //! file's value changed since the last poll. Nothing is remembered in place of reading. All memory, that of the turn
-//! too, is taken before a file is written: where a call is out of memory nothing was written.
+//! too, is taken before a file is written, so that nothing was written where a call is out of memory.
 //!
 //! ```text
 //! let mut level = FileProperty::new(alloc, files, path("/sys/class/leds/lamp/brightness"), Notation::Json);
@@ -11,9 +11,9 @@
 //! assert!(matches!(level.call(alloc, 1, &CallKind::Read)?, Answer::Value(Tree::Int(42))));
 //! ```
 //!
-//! What the handlers answer is `specs/Devices.antt`. What a file's content says and how a value is written is
-//! `specs/Values.antt`. The files are a trait, `DeviceFiles`, so that what is read and written is said of files in
-//! memory.
+//! The answers of the handlers are `specs/Devices.antt`. The value of a file's content and the text that is written of
+//! a value are `specs/Values.antt`. The files are a trait, `DeviceFiles`, so that contracts speak of reads and writes
+//! of files in memory.
 #![tactic(auto)]
 
 mod action;

@@ -1,6 +1,6 @@
-//! How a file's content writes a value.
+//! The notation of a file's content.
 
-/// How the content of a device's file writes a value.
+/// The way in which the content of a device's file writes a value.
 #[derive(Clone, Copy, Debug, PartialEq, Eq)]
 pub enum Notation {
     /// The content is the value's JSON text (RFC 8259).

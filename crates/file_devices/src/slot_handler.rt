@@ -1,4 +1,4 @@
-//! What stands in a slot of a gateway's rack: a device behind a file, or else the handler in memory that the product
+//! The handler in a slot of a gateway's rack: a device behind a file, or else the handler in memory that the product
 //! ships for the slot.
 
 ghost use Rattle.std.specs.Prelude.{◌≡◌, ◌<◌, IfOk, option_map};
@@ -12,7 +12,7 @@ use std::alloc::Global;
 use thing_handler::{Answer, CallKind, Handler, Kind, Shipped, Turn, shipped_in};
 use wot_json::Text;
 
-/// The handler of a slot. A library can't hand out a boxed one, so its callers box this.
+/// The handler of a slot. Its callers box this, since a library can't hand out a boxed one.
 #[derive(Drop)]
 pub enum SlotHandler<D: DeviceFiles> {
     Shipped(Shipped),

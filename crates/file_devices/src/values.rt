@@ -1,4 +1,4 @@
-//! What the content of a device's file says, and how a value is written into it.
+//! The value of the content of a device's file, and the text that is written of a value.
 
 ghost use Rattle.std.specs.Prelude.{◌≡◌, IfOk};
 ghost use Rattle.wot_json.specs.Json.{json_text};

@@ -11,7 +11,7 @@ use std::io::{ErrorKind, Write};
 use std::{io, rt};
 use wot_json::Bytes;
 
-/// The files of the machine. What they hold isn't recorded; it counts what fails.
+/// The files of the machine. Their content isn't recorded; it counts failures.
 #[derive(Drop)]
 pub struct DeviceFilesReal<R: rt::Files + Drop> {
     rt: R,

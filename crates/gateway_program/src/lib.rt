@@ -1,5 +1,5 @@
-//! The program `file_gateway` below `main`: the servient with devices behind files. Its first word names a list of devices
-//! (docs/DEVICES.md), and the words after it are those of `servient`, as are the statuses.
+//! The program `file_gateway` below `main`: the servient with devices behind files. Its first word names a list of
+//! devices (docs/DEVICES.md), and the words after it are those of `servient`, as are the statuses.
 //!
 //! It is a library so that each stored run is a program of this one call.
 #![tactic(auto)]
@@ -22,7 +22,7 @@ use std::process::ExitCode;
 use thing_handler::{Handler, Rack, SHIPPED_SLOTS};
 use wot_json::Text;
 
-/// Does what the words after the program's name say, and gives the exit status.
+/// Does the command of the words after the program's name, and gives the exit status.
 pub fn run(rt: &HostRuntime) -> ExitCode {
     match run_words(rt) {
         Ok(status) => ExitCode::from(status),
@@ -30,7 +30,7 @@ pub fn run(rt: &HostRuntime) -> ExitCode {
     }
 }
 
-/// Does what the words say. Without any they are no command line of the servient either.
+/// Does the command of the words. Without any they are no command line of the servient either.
 fn run_words(rt: &HostRuntime) -> Result<u8, NoMemory> {
     let words = process_words(rt)?;
     match after_first(words.as_slice()) {
@@ -39,7 +39,7 @@ fn run_words(rt: &HostRuntime) -> Result<u8, NoMemory> {
     }
 }
 
-/// Reads the list of devices of this name, and does what the words after it say.
+/// Reads the list of devices of this name, and does the command of the words after it.
 fn run_devices(rt: &HostRuntime, name: &Text, words: &[Text]) -> Result<u8, NoMemory> {
     let mut files = FilesReal::new(rt.clone()?);
     match read_devices(rt.alloc(), name.as_str(), &mut files) {
@@ -51,7 +51,7 @@ fn run_devices(rt: &HostRuntime, name: &Text, words: &[Text]) -> Result<u8, NoMe
     }
 }
 
-/// Does what words of the servient say, with these devices.
+/// Does the command of words of the servient, with these devices.
 fn run_command(rt: &HostRuntime, entries: &Entries, words: &[Text]) -> Result<u8, NoMemory> {
     let alloc = rt.alloc();
     let mut list: Vec<Box<dyn Handler>> = Vec::new(alloc);

@@ -1,4 +1,4 @@
--- What calls lead to, by what they put in place of what was held of one connection.
+-- The states to which calls lead, by the value that they put in place of the one held of one connection.
 use Rattle.std.proofs.Common.{◌≡◌, ℕ, zero, suc, ◌<◌, ◌≤◌, Bool, true, false, List, [], ◌∷◌, ◌++◌, length, get_or, refl, sym, ap, subst, ◌∙◌, cond, arith}
 use Rattle.std.specs.Prelude.{Option, Some, None, option_map, unwrap_or, IsSome, ◌==◌}
 use Rattle.std.proofs.lemmas.List.{get_or_read, append-nil}
@@ -18,7 +18,7 @@ use Rattle.http_bind.proofs.Sound.{place_after, owed_within}
 use Rattle.http_bind.proofs.Standing.{holds_at, leads_at, leads_left}
 use Rattle.http_bind.proofs.WaitLists.{others_twice, others_with_one, same_number, fewer_others}
 
--- what is held of a connection, as the code found it among its slots
+-- the value held of a connection, as the code found it among its slots
 pub record IsAt (c : ℕ) (b : Slots) (items : List (Option Held)) (ws : List Wait) (h : Option Held) : Type 0 where
   pub all : record { places = items; waits = ws } ≡ b
   pub within : c < length items
@@ -35,7 +35,7 @@ pub put_without : (c : ℕ) (b : Slots) (items : List (Option Held)) (ws vs : Li
 put_without c b items ws vs h g a gone =
     ap (λ (us : List Wait). record { places = with_place c g items; waits = us }) gone ∙ ap (λ (x : Slots). with_held c g (without_wait_of c x)) a.all
 
--- what is put there leads on
+-- the value that is put there leads on
 kept_leads : (c : ℕ) (b : Slots) (items : List (Option Held)) (ws : List Wait) (h g : Option Held) (Does : Streams → Streams → Type 0) → IsAt c b items ws h →
     ((s : Streams) → HoldsIfOpen h (connection_at c s) → (x : Option Connection) × HoldsIfOpen g x × Does s (with_connection c x s)) →
     Leads Does b (record { places = with_place c g items; waits = ws })
@@ -138,7 +138,7 @@ wakes_lead c now text b head body said owed d waits r closes is_head is_body = �
     let t = replied_at c now (woken_by text) b (head ++ body) said owed d r closes (bytes_are owed.bodiless owed.closes said (woken_by text) head body closes is_head is_body) s stands in
     (t.0, t.1, (subst (λ (ws : List Wait). is_waiting c ws ≡ true) stands.waits waits, t.2))
 
--- what a reply leaves
+-- the value that a reply leaves
 settled_left : (now : ℕ) (owed : Owed) (h g : Option Held) → Settles now h owed g → left_in g ≤ left_in h
 settled_left now owed None g settles = absurd settles
 settled_left now owed (Some h) g settles = subst (λ (k : Option Held). left_in k ≤ left_in (Some h)) (sym settles.1) (by owed.closes)
@@ -210,7 +210,7 @@ answers_wait c target now o b out d is owed put sent =
       lets_wait target is (waits_by c target now s k.0 k.1 (connection_at c s) refl holds k.3) (none_sent out sent),
     ))
 
--- what is put back is as it was
+-- a value that is put back changes nothing
 same_place : (c : ℕ) (b : List (Option Held)) → with_place c (held_at c (record { places = b; waits = [] })) b ≡ b
 same_place c [] = refl
 same_place zero (x ∷ b) = refl

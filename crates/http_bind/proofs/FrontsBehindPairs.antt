@@ -40,7 +40,7 @@ front_later d before bytes f (one_end n r found judged is) =
     one_end n r found judged
     (ap (later d) is ∙ sym (head_later d (before + n) r (drop n bytes)) ∙ ap (λ (k : ℕ). with_head k r (drop n bytes)) sum)
 
--- What is at the front without the pairs is at the front of the stream, after them.
+-- The front without the pairs is the front of the stream, after them.
 pub front_of_all : (all : List ℕ) (f : Front) → IsFront (skipped all) f → IsFront all (later (length all - length (skipped all)) f)
 front_of_all all f front =
     let d : ℕ = length all - length (skipped all) in

@@ -1,4 +1,4 @@
--- What is held of one connection, and the connection that it stands for.
+-- The value held of one connection, and the connection that it stands for.
 use Rattle.std.proofs.Common.{◌≡◌, ℕ, ◌+◌, ◌-◌, ◌≤◌, Bool, true, false, List, ◌++◌, length, drop, refl, sym, ap, subst, ◌∙◌, arith, length-append}
 use Rattle.std.specs.Prelude.{Option, Some, None, IsSome}
 use Rattle.std.proofs.lemmas.List.{drop-append-le, length-drop, drop-drop}

@@ -172,7 +172,7 @@ first_more bytes (p ∷ qs) n q used (one, behind, first, others, is) next =
       omega (arith, is),
     )
 
--- what is taken is what is found
+-- the thing taken is the thing found
 asked_found : (t : Bool) (r : Option Taken) (q : PlainRequest) → cond t (Some wants_continue) r ≡ Some (asks q) → r ≡ Some (asks q)
 asked_found true r q is = absurd cc
 asked_found false r q is = is

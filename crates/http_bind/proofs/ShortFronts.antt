@@ -106,7 +106,7 @@ headed_short bytes taken n (Ok h) expect ends judged is =
     let few = body_short h.framing (drop n bytes) (judged_bounded (take n bytes) h judged) open_body in
     omega (arith, few, ends.few, ends.within, length-drop n bytes)
 
--- What isn't whole has fewer bytes than a head and a body may have.
+-- A message that isn't whole has fewer bytes than a head and a body may have.
 pub short_front : (before : ℕ) (bytes : List ℕ) (expect : Bool) → IsFrontAfter before bytes (short expect) → length bytes < 28672
 short_front before bytes expect (no_end none is) = let few = none_short bytes (nat_le longest_head (length bytes)) expect refl is in omega (arith, few)
 short_front before bytes expect (one_end n r found judged is) = headed_short bytes (before + n) n r expect (head_within bytes n found) judged is

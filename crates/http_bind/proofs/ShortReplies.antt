@@ -1,4 +1,4 @@
--- How long the heads of replies are that have no place.
+-- The lengths of the heads of replies that have no place.
 use Rattle.std.proofs.Common.{ℕ, ◌<◌, ◌≤◌, ◌^◌, ◌||◌, Bool, true, false, List, [], ◌∷◌, ◌++◌, length, sym, ap, subst, arith, cond, codes, length-append}
 use Rattle.std.specs.Prelude.{Option, Some, None, option_map, IfSome, ◌==◌}
 use Rattle.std.specs.Fmt.{decimal}

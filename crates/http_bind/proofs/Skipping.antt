@@ -3,7 +3,7 @@ use Rattle.std.proofs.Common.{◌≡◌, ℕ, ◌+◌, ◌-◌, ◌≤◌, ◌&&
 use Rattle.std.proofs.Common.{suc, length-drop}
 use Rattle.http_wire.specs.Heads.{skipped}
 
--- what is left is the end of the bytes
+-- the rest is the end of the bytes
 pub record IsEnd (bytes rest : List ℕ) : Type 0 where
   pub place : ℕ
   pub within : place ≤ length bytes
@@ -47,7 +47,7 @@ skipped_more (a ∷ b ∷ bytes) more = more_by a b bytes more ((a == 13) && (b 
 pub skipped_alike : (xs ys more : List ℕ) → skipped xs ≡ skipped ys → skipped (xs ++ more) ≡ skipped (ys ++ more)
 skipped_alike xs ys more same = skipped_more xs more ∙ ap (λ (bytes : List ℕ). skipped (bytes ++ more)) same ∙ sym (skipped_more ys more)
 
--- what is left, from its place in the bytes
+-- the rest, from its place in the bytes
 pub skipped_from : (bytes rest : List ℕ) → rest ≡ skipped bytes → drop (length bytes - length rest) bytes ≡ rest
 skipped_from bytes rest is =
     let end = skipped_is_end bytes in

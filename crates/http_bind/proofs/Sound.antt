@@ -1,4 +1,4 @@
--- What always holds of the connections stays so in each call.
+-- Each call keeps the invariant of the connections.
 use Rattle.std.proofs.Common.{◌≡◌, ℕ, zero, suc, ◌<◌, ◌⊎◌, inl, inr, Bool, true, false, List, [], ◌∷◌, ◌++◌, length, refl, sym, subst, ◌∙◌, arith, length-append}
 use Rattle.std.specs.Prelude.{Option, None, IsSome, replicate, eqb}
 use Rattle.std.specs.List.{IsDistinct}
@@ -8,7 +8,7 @@ use Rattle.http_bind.specs.Streams.{is_waiting, other_waits}
 use Rattle.http_bind.specs.Slots.{Held, Slots, place_at, with_place, held_at, with_held, without_wait_of, with_wait, HasRoomFor, IsOwed, IsWaiting, IsSound, owed_in, nothing_held}
 use Rattle.http_bind.proofs.WaitLists.{none_is_left, others_wait, others_are_all, once_without, once_with, one_more_waits, few_wait}
 
--- what holds of each place holds where something is put that it holds of
+-- a property of each place stays so where a value is put that has it
 pub each_with : (P : ℕ → Option Held → Type 0) (c : ℕ) (x : Option Held) (places : List (Option Held)) → ((d : ℕ) → P d (place_at d places)) → P c x → (d : ℕ) →
     P d (place_at d (with_place c x places))
 each_with P c x [] all one d = all d
@@ -22,7 +22,7 @@ length_with c x [] = refl
 length_with zero x (y ∷ ys) = refl
 length_with (suc c) x (y ∷ ys) = let more = length_with c x ys in omega (arith, more)
 
--- what was put there is there
+-- the value that was put there is there
 pub place_after : (c : ℕ) (places : List (Option Held)) (x : Option Held) → c < length places → place_at c (with_place c x places) ≡ x
 place_after c [] x within = absurd (omega arith)
 place_after zero (h ∷ b) x within = refl

@@ -1,4 +1,4 @@
--- What is held of all connections, and the streams that it stands for.
+-- The values held of all connections, and the streams that they stand for.
 use Rattle.std.proofs.Common.{◌≡◌, ℕ, zero, suc, true, List, [], ◌∷◌, length, get_or, refl, sym, ap, subst, ◌∙◌, arith}
 use Rattle.std.specs.Prelude.{Option, Some, None, IsSome, replicate}
 use Rattle.std.proofs.lemmas.List.{get_or_read, get_or_default}
@@ -34,7 +34,7 @@ stands_with c b s h x a one = record { places = hold_with c b.places s.places h 
 stands_without : (c : ℕ) (b : Slots) (s : Streams) → StandsFor b s → StandsFor (without_wait_of c b) (without_wait c s)
 stands_without c b s a = record { places = a.places; waits = ap (other_waits c) a.waits }
 
--- what is put back is as it was
+-- a value that is put back changes nothing
 same_places : (c : ℕ) (s : List (Option Connection)) → (with_connection c (connection_at c (record { places = s; waits = [] })) (record { places = s; waits = [] })).places ≡ s
 same_places c [] = refl
 same_places zero (x ∷ s) = refl
@@ -91,7 +91,7 @@ lengths_alike (h ∷ b) (x ∷ s) a = let rest = lengths_alike b s a.1 in omega 
 idle_first : (now : ℕ) (b : List (Option Held)) (s : List (Option Connection)) → HoldAll b s → position (is_idle_held now) b ≡ position (is_idle now) s
 idle_first now b s a = rw (first_alike now b s a, lengths_alike b s a) refl
 
--- what the code finds among its slots
+-- the code's finding among its slots
 pub idle_is : (now : ℕ) (b : Slots) (s : Streams) (r : Option ℕ) {found items : List (Option Held)} → items ≡ b.places → found ≡ items → r ≡ position (is_idle_held now) found →
     StandsFor b s → position (is_idle now) s.places ≡ r
 idle_is now b s r {found} {items} all same first stands =

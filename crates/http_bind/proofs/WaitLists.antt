@@ -35,7 +35,7 @@ more_by : (d : ℕ) (w : Wait) (rest ws : List Wait) (t : Bool) → (is_waiting 
 more_by d w rest ws true more is = or_true (is_wait_of d w) (is_waiting d rest) (is_waiting d ws) is more
 more_by d w rest ws false more is = behind_true (is_wait_of d w) (is_waiting d ws) (more is)
 
--- what is among them was among all
+-- a wait among the others was among all
 pub others_wait : (c d : ℕ) (ws : List Wait) → is_waiting d (other_waits c ws) ≡ true → is_waiting d ws ≡ true
 others_wait c d [] is = is
 others_wait c d (w ∷ ws) is = more_by d w (other_waits c ws) ws (not (is_wait_of c w)) (others_wait c d ws) is
@@ -82,7 +82,7 @@ pub fewer_others : (c : ℕ) (ws : List Wait) → is_waiting c ws ≡ true → l
 fewer_others c [] is = absurd cc
 fewer_others c (w ∷ ws) is = fewer_by w (other_waits c ws) ws (is_wait_of c w) (is_waiting c ws) is (few_others c ws) (fewer_others c ws)
 
--- who waits, where one more does
+-- the connections that wait, where one more does
 pub one_more_waits : (d : ℕ) (w : Wait) (ws : List Wait) → is_waiting d (ws ++ w ∷ []) ≡ true → (is_waiting d ws ≡ true) ⊎ (d ≡ w.connection)
 one_more_waits d w [] is = inr (eqb-true d w.connection (alone (is_wait_of d w) is))
   where

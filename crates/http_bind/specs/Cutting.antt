@@ -15,7 +15,7 @@ AreFirst bytes [] n = n ≡ 0
 AreFirst bytes (request ∷ requests) n =
     (used : ℕ) × (behind : ℕ) × IsFirst bytes request used × AreFirst (drop used bytes) requests behind × (n ≡ used + behind)
 
--- what is found is no request
+-- the finding is no request
 abbrev pub IsNoRequest : Option Taken → Type 0
 IsNoRequest None = Unit {0}
 IsNoRequest (Some (asks request)) = ⊥
@@ -31,8 +31,8 @@ EndsThere bytes = (f : Front) × IsFront bytes f × IsNoRequest (found f)
 abbrev pub AreRequests : List ℕ → List PlainRequest → Type 0
 AreRequests bytes requests = (n : ℕ) × AreFirst bytes requests n × EndsThere (drop n bytes)
 
--- What one connection has been through since its opening, and the requests that were taken from it, in their order. One
--- that waits and is woken is replied to once, and one that is interrupted is gone.
+-- The history of one connection since its opening, and the requests that were taken from it, in their order. One that
+-- waits and is woken is replied to once, and one that is interrupted is gone.
 pub data HasTaken : Connection → List PlainRequest → Type 0 where
   at_opening : (now : ℕ) → HasTaken (opened_at now) []
   with_piece : (x : Connection) (requests : List PlainRequest) (piece : List ℕ) (now : ℕ) → HasTaken x requests →

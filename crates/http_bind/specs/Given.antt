@@ -1,4 +1,4 @@
--- What `next` gives, and what is held afterwards.
+-- The results of `next`, and the values held afterwards.
 use Rattle.std.specs.Prelude.{◌≡◌, ◌<◌, ◌≤◌, ℕ, IsSome}
 use Rattle.thing_ops.specs.Requests.{PlainRequest, plain_request}
 use Rattle.http_bind.specs.declared.next.HttpNext.{HttpNext}
@@ -15,7 +15,7 @@ StaysDry c s t = (t ≡ s) × IsDry c t
 abbrev pub AsksFor : ℕ → PlainRequest → Slots → Slots → Type 0
 AsksFor c request b d = Leads (Takes c (asks request)) b d × IsOwed c d
 
--- What was given, and what is held after it.
+-- The result that was given, and the values held after it.
 abbrev pub Gives : ℕ → HttpNext → Slots → Slots → Type 0
 Gives c next.Idle b d = Leads (StaysDry c) b d × HasRoom c d
 Gives c next.Continue b d = Leads (Takes c wants_continue) b d × IsOpen c d

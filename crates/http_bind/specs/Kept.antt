@@ -1,4 +1,4 @@
--- How the code keeps what it holds of a connection.
+-- The code's form of the value that it holds of a connection.
 use Rattle.std.specs.Prelude.{◌≤◌, length, drop, Option, option_map, vec_capacity}
 use Rattle.http_bind.specs.declared.slot.State.{State}
 use Rattle.http_bind.specs.declared.slot.Slot.TheInside.{Inside}
@@ -9,11 +9,11 @@ use Rattle.std.specs.Prelude.{List, ℕ}
 abbrev pub held_with : List ℕ → State → Held
 held_with rest st = record { rest = rest; continued = st.continued; owed = st.owed; active = st.active }
 
--- what is seen: the bytes after those that were taken
+-- the view: the bytes after those that were taken
 abbrev pub seen : Inside → Option Held
 seen x = option_map (held_with (drop x.start x.bytes.items)) x.state
 
--- what always holds: the bytes are within the memory that was taken at first
+-- the invariant: the bytes are within the memory that was taken at first
 pub record IsKept (x : Inside) : Type 0 where
   pub start : x.start ≤ length x.bytes.items
   pub bound : length x.bytes.items ≤ longest_rest

@@ -1,4 +1,4 @@
--- What the code finds at the front of the bytes that it holds, in the words of the streams.
+-- The code's findings at the front of the bytes that it holds, in the words of the streams.
 use Rattle.std.specs.Prelude.{◌≡◌, ◌≤◌, ℕ, Bool, List, Some, None, IfSome, IsSome}
 use Rattle.thing_ops.specs.Requests.{PlainRequest}
 use Rattle.http_wire.specs.Stream.{PlainHead, Front, IsFront}
@@ -9,7 +9,7 @@ use Rattle.http_bind.specs.declared.looking.Found.TheVariants as seen
 use Rattle.http_bind.specs.Replying.{is_head, fault_word}
 use Rattle.http_bind.specs.Streams.{asks, wants_continue, is_faulty, to_take, bytes_used, asks_to_close}
 
--- How many bytes a query and a body have at most.
+-- The most bytes of a query and a body.
 abbrev pub room_size : ℕ
 room_size = 24576
 
@@ -19,7 +19,7 @@ pub record IsStep (f : Front) (q : PlainRequest) (step : Step) : Type 0 where
   pub bodiless : step.owed.bodiless ≡ is_head q.verb
   pub closes : step.owed.closes ≡ asks_to_close f
 
--- what was found is what can be taken at this front
+-- the finding can be taken at this front
 abbrev pub Fits : Bool → Front → Found → List ℕ → Type 0
 Fits continued f seen.Nothing room = to_take continued f ≡ None
 Fits continued f seen.Interrupted room = ⊥
@@ -28,7 +28,7 @@ Fits continued f (seen.Fault status) room = (to_take continued f ≡ Some (is_fa
 Fits continued f (seen.Message step parts) room =
     (q : PlainRequest) × (to_take continued f ≡ Some (asks q)) × IsStep f q step × IfSome parts (AreParts q room)
 
--- what was found is what can be taken at the front of these bytes
+-- the finding can be taken at the front of these bytes
 abbrev pub Shows : Bool → List ℕ → Found → List ℕ → Type 0
 Shows continued bytes what room = (f : Front) × IsFront bytes f × Fits continued f what room
 
@@ -46,7 +46,7 @@ pub record IsMessageStep (h : PlainHead) (n : ℕ) (q : PlainRequest) (step : St
   pub bodiless : step.owed.bodiless ≡ is_head q.verb
   pub closes : step.owed.closes ≡ h.close
 
--- what was found is what a whole message is taken for
+-- the finding is the reading of a whole message
 abbrev pub ShowsMessage : PlainHead → List ℕ → ℕ → Found → List ℕ → Type 0
 ShowsMessage h body used seen.Nothing room = ⊥
 ShowsMessage h body used seen.Interrupted room = ⊥

@@ -7,6 +7,6 @@ use Rattle.servient_base.specs.Encoding.{encoded}
 abbrev pub segment_text : List ℕ → List ℕ
 segment_text segment = codes "/" ++ encoded segment
 
--- the path of these segments
+-- the text of a path
 abbrev pub path_text : List (List ℕ) → List ℕ
 path_text path = flat_map segment_text path

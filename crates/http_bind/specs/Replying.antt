@@ -1,4 +1,4 @@
--- How an outcome is replied over HTTP (RFC 9110, sections 8.3, 8.6, 8.8.3, 9.3.2, 10.2.1, 10.2.2 and 15.4.5).
+-- The reply to an outcome over HTTP (RFC 9110, sections 8.3, 8.6, 8.8.3, 9.3.2, 10.2.1, 10.2.2 and 15.4.5).
 use Rattle.std.specs.Prelude.{ℕ, ◌==◌, List, [], ◌∷◌, ◌++◌, length, codes, Bool, true, false, nat_le, Option, Some, None, unwrap_or, option_map, if◌then◌else◌}
 use Rattle.thing_ops.specs.declared.outcome.Outcome.{Outcome}
 use Rattle.thing_ops.specs.declared.outcome.Outcome.TheVariants as outcome
@@ -35,7 +35,7 @@ abbrev pub allow_of : Outcome → Option (List ℕ)
 allow_of (outcome.NotAllowed allow) = Some (names_of (verbs_in allow))
 allow_of o = None
 
--- what the head of a reply says, with this status and this place
+-- the parts of the head of a reply, with this status and this place
 abbrev pub head_of : ℕ → Bool → Option (List ℕ) → Outcome → PlainReply
 head_of status closes location o = record {
   status = status;
@@ -73,7 +73,7 @@ reply_body false o = payload_of o
 abbrev pub reply : Bool → Bool → Outcome → Option (List ℕ)
 reply bodiless closes o = option_map (λ head. head ++ reply_body bodiless o) (reply_head closes o)
 
--- ---- what is answered without an outcome
+-- ---- replies without an outcome
 
 -- the word of a fault: of a bad message, of a body or a head that is too long, of a coding that isn't known
 abbrev pub fault_word : ℕ → Option (List ℕ)

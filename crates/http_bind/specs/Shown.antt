@@ -1,4 +1,4 @@
--- What is found at the front of one connection, and what taking it leaves.
+-- The finding at the front of one connection, and the connection that taking it leaves.
 use Rattle.std.specs.Prelude.{◌≡◌, ◌≤◌, ◌+◌, ℕ, Bool, true, false, List, [], ◌∷◌, length, drop, Option, Some, None, is_some}
 use Rattle.http_wire.specs.Heads.{skipped}
 use Rattle.http_bind.specs.declared.looking.Found.{Found}
@@ -18,7 +18,7 @@ abbrev pub MayPass : Found → Option Held → Type 0
 MayPass what None = Unit {0}
 MayPass what (Some h) = IsWithin (length h.rest) what
 
--- what is held after this was taken
+-- the value held after this was taken
 abbrev pub after_finding : Found → Held → Held
 after_finding seen.Nothing h = h
 after_finding seen.Interrupted h = h
@@ -26,7 +26,7 @@ after_finding seen.Continue h = record h { continued = true }
 after_finding (seen.Fault status) h = h
 after_finding (seen.Message step parts) h = record h { rest = drop step.used h.rest; continued = false; owed = Some step.owed }
 
--- what is at the front, after CR LF pairs, was found and taken
+-- the thing at the front, after CR LF pairs, was found and taken
 abbrev pub TakesFront : Option Held → Found → Option Held → List ℕ → Type 0
 TakesFront None what after room = (what ≡ seen.Nothing) × (after ≡ None)
 TakesFront (Some h) what after room =
@@ -70,7 +70,7 @@ pub record SettlesAt (c now : ℕ) (b : Slots) (owed : Owed) (d : Slots) : Type 
   pub settles : Settles now (held_at c b) owed held
   pub after : d ≡ with_held c held (without_wait_of c b)
 
--- what was found at the front of a connection was taken from it, and all others are as they were
+-- the finding at the front of a connection was taken from it, and all others are as they were
 abbrev pub TakesAt : ℕ → List (Option Held) → Found → List (Option Held) → List ℕ → Type 0
 TakesAt c b what d room = (x : Option Held) × Passes (place_at c b) what x room × (d ≡ with_place c x b)
 
@@ -92,7 +92,7 @@ LendsRequest q (next.Ask request) = plain_request request ≡ q
 LendsRequest q (next.Refuse status) = ⊥
 LendsRequest q next.Memory = ⊥
 
--- what was found is given
+-- the finding is given
 abbrev pub Lends : Found → List ℕ → HttpNext → Type 0
 Lends seen.Nothing room given = given ≡ next.Idle
 Lends seen.Interrupted room given = given ≡ next.Close

@@ -1,4 +1,4 @@
--- What contracts see of an `HttpBind`, and the streams that it stands for.
+-- An `HttpBind` as contracts see it, and the streams that it stands for.
 use Rattle.std.specs.Prelude.{◌≡◌, ◌≤◌, ℕ, ◌+◌, ◌-◌, ◌*◌, ◌&&◌, Bool, true, false, eqb, nat_le, List, [], ◌∷◌, ◌++◌, length, map, replicate, slice_index_or, slice_set, Option, Some, None, option_and_then, IsSome, if◌then◌else◌}
 use Rattle.std.specs.List.{IsDistinct}
 use Rattle.std.specs.Option.{is_none}
@@ -20,21 +20,21 @@ longest_piece = 4096
 abbrev pub longest_text : ℕ
 longest_text = 1024
 
--- What is held of an open connection: the bytes of its stream that weren't taken, but for CR LF pairs that are skipped;
--- whether the 100 reply was sent for the message at their front; what is owed to the request taken last, until it is
--- replied to; and the moment of its last activity.
+-- The value held of an open connection: the bytes of its stream that weren't taken, but for CR LF pairs that are
+-- skipped; whether the 100 reply was sent for the message at their front; what is owed to the request taken last, until
+-- it is replied to; and the moment of its last activity.
 pub record Held : Type 0 where
   pub rest : List ℕ
   pub continued : Bool
   pub owed : Option Owed
   pub active : ℕ
 
--- what is held, by the numbers of the connections, and the requests that wait, the oldest first
+-- the values held, by the numbers of the connections, and the requests that wait, the oldest first
 pub record Slots : Type 0 where
   pub places : List (Option Held)
   pub waits : List Wait
 
--- what is held at a place, and what is there with something else at that place
+-- the value held at a place, and the values held with another at that place
 abbrev pub place_at : ℕ → List (Option Held) → Option Held
 place_at c places = slice_index_or places c None
 
@@ -61,8 +61,8 @@ nothing_held = replicate 64 None
 
 -- ---- the streams that are stood for
 
--- What is held of a connection stands for it. Where a reply is owed, all bytes behind the messages taken are held, CR
--- LF pairs too, since each of them ends the wait for that reply.
+-- The value held of a connection stands for it. Where a reply is owed, all bytes behind the messages taken are held,
+-- CR LF pairs too, since each of them ends the wait for that reply.
 pub record Holds (h : Held) (x : Connection) : Type 0 where
   pub rest : skipped h.rest ≡ skipped (rest_of x)
   pub behind : IsSome x.owed → h.rest ≡ rest_of x
@@ -83,17 +83,17 @@ HoldAll [] (x ∷ xs) = ⊥
 HoldAll (h ∷ hs) [] = ⊥
 HoldAll (h ∷ hs) (x ∷ xs) = HoldsIfOpen h x × HoldAll hs xs
 
--- What is held stands for these streams: the same connections are open, of each the rest of its stream is held, and the
--- same requests wait.
+-- The values held stand for these streams: the same connections are open, of each the rest of its stream is held, and
+-- the same requests wait.
 pub record StandsFor (b : Slots) (s : Streams) : Type 0 where
   pub places : HoldAll b.places s.places
   pub waits : b.waits ≡ s.waits
 
--- For all streams that what is held stood for before, it stands afterwards for some to which this leads.
+-- For all streams that the values held stood for before, they stand afterwards for some to which this leads.
 abbrev pub Leads : (Streams → Streams → Type 0) → Slots → Slots → Type 0
 Leads Does b d = (s : Streams) → StandsFor b s → (t : Streams) × StandsFor d t × Does s t
 
--- ---- what calls ask for and leave
+-- ---- the conditions and the results of calls
 
 -- a connection that was opened at this moment
 abbrev pub held_at_opening : ℕ → Held
@@ -140,15 +140,16 @@ IsOwed c b = IsSome (owed_in (held_at c b))
 abbrev pub IsWaiting : ℕ → Slots → Type 0
 IsWaiting c b = is_waiting c b.waits ≡ true
 
--- What always holds: 64 connections, of each no more bytes than may be held, and each wait is of a connection that is
--- owed a reply, which has no other wait.
+-- The invariant: 64 connections, of each no more bytes than may be held, and each wait is of a connection that is owed
+-- a reply, which has no other wait.
 pub record IsSound (b : Slots) : Type 0 where
   pub count : length b.places ≡ 64
   pub bounded : (c : ℕ) → IsBounded c b
   pub owed : (c : ℕ) → IsWaiting c b → IsOwed c b
   pub once : IsDistinct eqb (map (λ w. w.connection) b.waits)
 
--- How much may still be taken of a connection: each thing that is taken leaves less, and a closed one has nothing.
+-- A bound of the things that may still be taken of a connection: each thing taken leaves less, and a closed one has
+-- nothing.
 abbrev pub left_in : Option Held → ℕ
 left_in None = 0
 left_in (Some h) = 2 * length h.rest + (if h.continued then 1 else 2)
@@ -164,6 +165,6 @@ pub record OthersStay (c : ℕ) (b d : Slots) : Type 0 where
 
 -- ---- replies that were written
 
--- what is sent for the outcome of a request; nothing, while it waits
+-- the reply that is sent for the outcome of a request; nothing, while it waits
 abbrev pub sent_in : HttpOut → Option HttpReply
 sent_in out = if out.waits then None else Some (record { bytes = out.head.now ++ out.body.now; closes = out.close })

@@ -99,16 +99,16 @@ Lengthened c piece now s t = t ≡ with_connection c (option_map (lengthened pie
 
 -- ---- messages
 
--- What is taken from a connection: a request; or that the message at the front asks for a 100 reply, which wasn't sent
--- yet (RFC 9110, section 10.1.1); or a fault with its status; or that bytes came behind a request that isn't replied to
--- yet.
+-- A thing that is taken from a connection: a request; or that the message at the front asks for a 100 reply, which
+-- wasn't sent yet (RFC 9110, section 10.1.1); or a fault with its status; or that bytes came behind a request that
+-- isn't replied to yet.
 pub data Taken : Type 0 where
   asks : (request : PlainRequest) → Taken
   wants_continue : Taken
   is_faulty : (status : ℕ) → Taken
   interrupts : Taken
 
--- what a whole message is taken for: a target that isn't taken is a fault
+-- the reading of a whole message: a target that isn't taken is a fault
 abbrev pub read_as : Option PlainRequest → Taken
 read_as (Some request) = asks request
 read_as None = is_faulty 400
@@ -118,18 +118,18 @@ expected (short expect) = expect
 expected (message head body used expect) = expect
 expected (fault status expect) = expect
 
--- what is at a front, apart from a 100 reply
+-- the thing at a front, apart from a 100 reply
 abbrev pub found : Front → Option Taken
 found (short expect) = None
 found (message head body used expect) = Some (read_as (asked head body))
 found (fault status expect) = Some (is_faulty status)
 
--- What can be taken at a front, where the 100 reply was sent or wasn't. That reply goes out as soon as the head is
--- whole that asks for it, and once.
+-- The thing that can be taken at a front, where the 100 reply was sent or wasn't. That reply goes out as soon as the
+-- head is whole that asks for it, and once.
 abbrev pub to_take : Bool → Front → Option Taken
 to_take continued f = if expected f && not continued then Some wants_continue else found f
 
--- how many bytes a whole message takes, and whether it asks to close the connection
+-- the number of bytes that a whole message takes, and whether it asks to close the connection
 abbrev pub bytes_used : Front → ℕ
 bytes_used (short expect) = 0
 bytes_used (message head body used expect) = used
@@ -208,13 +208,13 @@ pub record HttpReply : Type 0 where
   pub bytes : List ℕ
   pub closes : Bool
 
--- What comes of the outcome of the request taken last: it waits, and nothing is sent; or it is replied with these
+-- The answer to the outcome of the request taken last: it waits, and nothing is sent; or it is replied with these
 -- bytes, and the connection is closed after them or isn't.
 pub data Answers (c : ℕ) (o : Outcome) (now : ℕ) (sent : Option HttpReply) (s t : Streams) : Type 0 where
   lets_wait : (target : ℕ) → o ≡ outcome.Wait target → Waits c target now s t → sent ≡ None → Answers c o now sent s t
   sends_reply : (bytes : List ℕ) (closes : Bool) → waits_of o ≡ None → Replies c o now bytes closes s t → sent ≡ Some (record { bytes = bytes; closes = closes }) → Answers c o now sent s t
 
--- what a request that waits is replied: the text that was emitted, or that there was none
+-- the reply to a request that waits: the text that was emitted, or that there was none
 abbrev pub woken_by : Option (List ℕ) → Outcome
 woken_by (Some text) = outcome.Content text None
 woken_by None = outcome.Empty

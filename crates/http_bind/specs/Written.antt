@@ -20,7 +20,7 @@ pub record IsShortReply (r : PlainReply) : Type 0 where
   pub allow : IfSome r.allow (λ t. length t ≤ 64)
   pub size : IfSome r.size (λ n. n < 2 ^ 64)
 
--- what the head of the reply with a text of this many bytes says
+-- the parts of the head of the reply with a text of this many bytes
 abbrev pub head_of_text : ℕ → Bool → PlainReply
 head_of_text size closes = record {
   status = 200;

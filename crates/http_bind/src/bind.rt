@@ -13,6 +13,7 @@ use crate::writing::{
     HEAD_BYTES, WORD_BYTES, fault_word, payload, put_answer, put_status_head, put_woken,
 };
 use crate::{HttpNext, HttpOut};
+use http_wire::CONTINUE;
 use servient_base::{ConnectionId, Target, put_bytes};
 use std::alloc::Global;
 use std::marker::Model;
@@ -71,7 +72,7 @@ impl HttpBind {
     pub fn always_sound(&self)
         ensures { IsSound self.now }
     {
-        // The prover knows what always holds where a field is read.
+        // A field is read, since the prover knows there what always holds.
         let _slots = &self.slots;
     }
 
@@ -126,7 +127,7 @@ impl HttpBind {
     }
 
     /// The request that was taken last from a connection waits, or it is replied to. The head of a reply is in `out`; its
-    /// payload is the outcome's text, or its word in `word`.
+    /// payload is the outcome's text, or its word in `word`. Both are the caller's, so that a reply takes no memory.
     pub fn answered<'a>(
         &mut self,
         c: ConnectionId,
@@ -182,7 +183,7 @@ impl HttpBind {
         ensures fewer { length self.new.waits < length self.old.waits }
         ensures others { OthersStay c self.old self.new }
     {
-        // For the proof: who waits is owed a reply.
+        // Called so that the proof knows that who waits is owed a reply.
         self.always_sound();
         let owed = self.settle(c, now);
         let length = put_woken(text, owed.closes, out);
@@ -214,13 +215,13 @@ impl HttpBind {
         ensures left { left_at c self.new ≤ (if status == 100 then left_at c self.old else 0) }
         ensures others { OthersStay c self.old self.new }
     {
-        self.free_unless(c, status == 100);
+        self.free_unless(c, status == CONTINUE);
         let length = put_status_head(status, out);
         let end = put_bytes(word, 0, fault_word(status));
         HttpOut {
             head: &out[..length],
             body: &word[..end],
-            close: status != 100,
+            close: status != CONTINUE,
             waits: false,
         }
     }
@@ -257,7 +258,8 @@ impl HttpBind {
         }
     }
 
-    /// The request that was taken last from a connection waits for an emission of a target.
+    /// The request that was taken last from a connection waits for an emission of a target. An earlier wait of the
+    /// connection goes first, so that it waits once at most.
     fn begin_wait(&mut self, c: ConnectionId, target: Target, now: u64)
         requires { IsOwed c self.old }
         ensures { self.new ≡ with_wait c target now self.old }
@@ -292,7 +294,8 @@ impl HttpBind {
     }
 }
 
-/// The place of the first connection that is idle.
+/// The place of the first connection that is idle. It is a function, since the search proves
+/// `position` in a function alone.
 fn first_idle(slots: &[Slot], now: u64) -> Option<usize>
     ensures first { result ≡ position (is_idle now) slots.now }
     ensures bound { IfSome result (λ place. place < length slots.now) }
@@ -322,6 +325,7 @@ fn free_slots(alloc: Global) -> Result<Vec<Slot>, NoMemory>
     ensures { IfOk result (λ slots. slots.items ≡ nothing_held) }
 {
     let mut slots = Vec::with_capacity(alloc, CONNECTIONS)?;
+    // Each is made anew, since a slot holds memory and has no copy.
     for _slot in 0..CONNECTIONS {
         slots.push(Slot::new(alloc)?)?;
     }

@@ -6,7 +6,7 @@ ghost use Rattle.http_bind.specs.Streams.{expected};
 ghost use Rattle.http_bind.specs.Looking.{room_size, Shows, IsWithin};
 
 use crate::owed::Owed;
-use http_wire::{Head, RequestParts, Scanned, TargetFault, request_of, scan, verb_of};
+use http_wire::{BAD_REQUEST, Head, RequestParts, Scanned, TargetFault, request_of, scan, verb_of};
 use std::alloc::Global;
 use thing_ops::Verb;
 
@@ -63,7 +63,8 @@ pub fn look(alloc: Global, bytes: &[u8], continued: bool, room: &mut [u8]) -> Fo
             };
             match request_of(alloc, head, body, room) {
                 Ok(parts) => Found::Message(step, Some(parts)),
-                Err(TargetFault::BadTarget) => Found::Fault(400),
+                Err(TargetFault::BadTarget) => Found::Fault(BAD_REQUEST),
+                // Taken also where memory is out, since a reply is owed to it.
                 Err(TargetFault::NoMemory) => Found::Message(step, None),
             }
         }

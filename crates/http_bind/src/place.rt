@@ -7,12 +7,13 @@ ghost use Rattle.http_bind.specs.Places.{path_text, segment_text};
 use servient_base::{put_encoded, put_piece};
 use thing_ops::Segments;
 
-/// Writes the path of these segments to the beginning of `out`, if there is room for it.
+/// Writes a path to the beginning of `out`, if there is room for it.
 pub fn put_path(path: &Segments, out: &mut [u8]) -> Option<usize>
     ensures { PutsIfRoom (path_text path.now) 0 out.old out.new result }
 {
     let mut end = 0;
     for index in 0..path.len() {
+        // A match and not `?`, since that gives the proof of the loop facts on `ControlFlow` alone.
         match put_segment_at(path, index, out, end) {
             Some(next) => end = next,
             None => return None,

@@ -29,7 +29,8 @@ pub struct State {
 /// A connection as it is held, if it is open. Contracts see the bytes that weren't taken and the state besides them
 /// (`Held` of specs/Slots.antt).
 ///
-/// Taking a message moves no bytes: `start` is after it. The bytes in front of `start` go when more come.
+/// Taking a message moves no bytes, so that its time doesn't depend on those behind it: `start` is after it. The bytes
+/// in front of `start` go when more come.
 #[derive(Drop)]
 pub struct Slot {
     bytes: Vec<u8>,
@@ -95,6 +96,7 @@ impl Slot {
         if let Some(state) = self.state {
             move_to_front(&mut self.bytes, self.start);
             self.start = 0;
+            // Never out of memory, since the room was taken at first and the piece fits.
             self.bytes.extend_from_slice(piece).unwrap();
             self.state = Some(State {
                 active: now,
@@ -103,8 +105,8 @@ impl Slot {
         }
     }
 
-    /// Takes what is at the front, after CR LF pairs: a message, or the request for a 100 reply. A fault stays there. Where a reply is
-    /// owed, nothing is taken, and a connection is given up that has bytes.
+    /// Takes what is at the front, after CR LF pairs: a message, or the request for a 100 reply. A fault stays there.
+    /// Where a reply is owed, nothing is taken, and a connection is given up that has bytes.
     pub fn next(&mut self, alloc: Global, room: &mut [u8]) -> Found
         requires { room_size ≤ length room.old }
         ensures { Passes self.old result self.new room.new }
@@ -189,6 +191,7 @@ impl Slot {
         match self.state {
             None => false,
             Some(state) => {
+                // Saturating, since moments may fall.
                 state.owed.is_none() && now.saturating_sub(state.active) >= IDLE_AFTER
             }
         }

@@ -18,7 +18,7 @@ pub struct Wait {
     pub connection: ConnectionId,
     /// The target for whose emission it waits.
     pub target: Target,
-    /// When it began to wait, in milliseconds.
+    /// The moment at which it began to wait, in milliseconds.
     pub since: u64,
 }
 
@@ -56,6 +56,7 @@ impl Waits {
         requires { length self.old < 64 }
         ensures { self.new ≡ self.old ++ wait ∷ [] }
     {
+        // Never out of memory, since the room was taken at first and fewer than it holds wait.
         self.list.push(wait).unwrap();
     }
 
@@ -84,7 +85,8 @@ impl Waits {
 ghost use Rattle.std.specs.Prelude.{◌≡◌};
 ghost use Rattle.http_bind.specs.Streams.{oldest_for as oldest_wait_for, oldest_late as oldest_late_wait};
 
-/// The connection of the first wait of a target.
+/// The connection of the first wait of a target. It is a function, since the search proves
+/// `find` in a function alone.
 fn first_of(list: &[Wait], target: Target) -> Option<ConnectionId>
     ensures { result ≡ oldest_wait_for target list.now }
 {

@@ -11,7 +11,7 @@ ghost use Rattle.http_bind.specs.Written.{PutsPlaced, IsShortReply, head_of_text
 ghost use Rattle.thing_ops.specs.declared.outcome.Outcome.TheVariants as outcome;
 
 use crate::place::{put_entry, put_path};
-use http_wire::{Reply, put_reply};
+use http_wire::{CONTINUE, NO_CONTENT, OK, Reply, put_reply};
 use thing_ops::{LONGEST_LINE, LONGEST_WORD, Outcome, Segments, http_status, word};
 use wot_json::Text;
 
@@ -99,7 +99,7 @@ fn put_content(size: usize, close: bool, out: &mut [u8]) -> usize
     ensures within { result ≤ longest_reply_head }
 {
     let reply = Reply {
-        status: 200,
+        status: OK,
         content_type: Some(JSON),
         etag: None,
         location: None,
@@ -117,7 +117,7 @@ fn put_empty(close: bool, out: &mut [u8]) -> usize
     ensures within { result ≤ longest_reply_head }
 {
     let reply = Reply {
-        status: 204,
+        status: NO_CONTENT,
         content_type: None,
         etag: None,
         location: None,
@@ -142,7 +142,7 @@ fn put_placed(outcome: &Outcome, basics: Basics, out: &mut [u8]) -> Option<usize
     }
 }
 
-/// Writes the head of a reply with the path of these segments as its place, if there is room.
+/// Writes the head of a reply with this path as its place, if there is room.
 fn put_started(outcome: &Outcome, place: &Segments, basics: Basics, out: &mut [u8]) -> Option<usize>
     requires phrase { IsSome (phrase_of basics.status) }
     requires size { basics.size ≡ length (payload_of outcome.now) }
@@ -150,6 +150,7 @@ fn put_started(outcome: &Outcome, place: &Segments, basics: Basics, out: &mut [u
     requires place { location_of outcome.now ≡ Some (path_text place.now) }
     ensures { PutsPlaced basics.status basics.close outcome.now out.new result }
 {
+    // A room on the stack, so that the place takes no memory.
     let mut path = [0; HEAD_BYTES];
     let end = put_path(place, &mut path)?;
     put_at(outcome, &path[..end], basics, out)
@@ -188,7 +189,7 @@ fn put_at(outcome: &Outcome, place: &[u8], basics: Basics, out: &mut [u8]) -> Op
     put_reply(&reply, out)
 }
 
-/// Writes the head of a reply that is short.
+/// Writes the head of a reply that is short. `unwrap` never fails, since the room is longer than such a head.
 fn put_short(reply: &Reply<'_>, out: &mut [u8]) -> usize
     requires phrase { IsSome (phrase_of reply.now.status) }
     requires short { IsShortReply (plain_reply reply.now) }
@@ -199,7 +200,8 @@ fn put_short(reply: &Reply<'_>, out: &mut [u8]) -> usize
     put_reply(reply, out).unwrap()
 }
 
-/// The media type of the payload of an outcome.
+/// The media type of the payload of an outcome. Each variant is listed, since with `_` the definition of the contract
+/// doesn't compute.
 fn media_type(outcome: &Outcome) -> Option<&'static str>
     ensures { option_map (λ t. t.now) result ≡ media_type_of outcome.now }
 {
@@ -260,7 +262,7 @@ pub fn put_status_head(status: u16, out: &mut [u8]) -> usize
     ensures text { take result out.new ≡ status_head status }
     ensures within { result ≤ longest_reply_head }
 {
-    let reply = if status == 100 {
+    let reply = if status == CONTINUE {
         Reply {
             status,
             content_type: None,

@@ -98,7 +98,7 @@ tail_skipped (b ∷ bytes) pass =
       | inr some ↦ inr (step ∙ some)
     ]
 
--- what is left of bytes that end earlier, from their end
+-- the rest of bytes that end earlier, from their end
 take_from_end : (n : ℕ) (xs : List ℕ) → take (length xs - n) xs ≡ reverse (drop n (reverse xs))
 take_from_end n xs =
     let front = reverse (drop n (reverse xs)) in
@@ -147,7 +147,7 @@ ended_value_trimmed raw pass =
 
 -- ---- lines
 
--- what is before the line feed of a line end
+-- the bytes before the line feed of a line end
 abbrev tail : LineEnd → List ℕ
 tail crlf = 13 ∷ []
 tail lf = []
@@ -223,7 +223,7 @@ version_lacks minor =
     All-append none (codes "HTTP/1.") ((48 + minor) ∷ []) (All-from_recursion none (codes "HTTP/1.") (refl, (refl, (refl, (refl, (refl, (refl, (refl, tt))))))))
     (All-cons none (48 + minor) [] (ne_eqb (48 + minor) 10 (λ is. absurd (omega (arith, is)))) (All-nil none))
 
--- what is behind the start line is the header lines and the empty line after them
+-- behind the start line are the header lines and the empty line after them
 behind_head : (h : RequestHead) → IsRequestHead h → behind_start (print_request h ++ []) ≡ print_section h.fields h.last ++ []
 behind_head h is =
     let section = print_section h.fields h.last ++ [] in

@@ -31,7 +31,7 @@ begins (b ∷ c ∷ bytes) is =
     let other = both (nat_eq 10 c) true one.1 in
     λ i. sym (eqb-true 13 b one.0) i ∷ sym (eqb-true 10 c other.0) i ∷ bytes
 
--- what is in front of the first CR LF
+-- the bytes in front of the first CR LF
 abbrev SplitsAt : List ℕ → ℕ → Type 0
 SplitsAt bytes n = bytes ≡ take (n - 2) bytes ++ (13 ∷ 10 ∷ drop n bytes)
 
@@ -237,7 +237,7 @@ cut_size digits extension is some eight hex =
     ap (λ (t : Bool). cond t (size_of_digits (before_first (λ b. b == 59) (digits ++ print_extension extension))) None) is.after
     ∙ ap size_of_digits is.before ∙ size_of digits some eight hex
 
--- what is read of a line that is spelled
+-- the reading of a line that is spelled
 pub record IsReadAt (l : ChunkLine) (rest : List ℕ) : Type 0 where
   pub found : length_through line_end (take 64 (print_chunk_line l ++ rest)) ≡ Some (length (print_chunk_line l))
   pub sized : chunk_size (take (length (print_chunk_line l) - 2) (print_chunk_line l ++ rest)) ≡ Some (line_size l)

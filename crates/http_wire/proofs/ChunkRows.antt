@@ -60,7 +60,7 @@ with_two_chunks a b m n (whole body used) = cc (append_assoc a b body, sums m n 
     sums : (m n k : ℕ) → m + (n + k) ≡ m + n + k
     sums m n k = omega arith
 
--- what comes after a chunk of a whole body is whole
+-- the body after a chunk of a whole body is whole
 pub record IsWholeBehind (done : List ℕ) (taken : ℕ) (rest : BodyFront) (body : List ℕ) : Type 0 where
   pub others : List ℕ
   pub used : ℕ
@@ -73,7 +73,7 @@ whole_behind done taken unfinished body used is = absurd cc
 whole_behind done taken (faulty status) body used is = absurd cc
 whole_behind done taken (whole others n) body used is = record { others = others; used = n; rest_is = refl; body_is = cc }
 
--- What was read of a body so far: its chunks up to a place, with n bytes of data.
+-- The part of a body that was read so far: its chunks up to a place, with n bytes of data.
 pub record IsRead (most : ℕ) (bytes : List ℕ) (done : List ℕ) (place sum : ℕ) : Type 0 where
   pub sum_is : length done ≡ sum
   pub rest_is : chunks most 0 0 bytes ≡ with_chunk done place (chunks most 0 sum (drop place bytes))
@@ -92,7 +92,7 @@ pub length-data_at : (bytes : List ℕ) (place after size : ℕ) → after + siz
 length-data_at bytes place after size within =
     length-take-le size (drop after (drop place bytes)) (omega (arith, length-drop after (drop place bytes)))
 
--- how many bytes there are from a place on
+-- the number of bytes from a place on
 pub length-drop_from : (place : ℕ) (bytes : List ℕ) → length (drop place bytes) ≡ length bytes - place
 length-drop_from place bytes = length-drop place bytes
 

@@ -15,7 +15,7 @@ use Rattle.http_wire.specs.Asked.{is_quoted, number_named}
 abbrev quoted : List ℕ → List ℕ
 quoted bytes = 34 ∷ (bytes ++ 34 ∷ [])
 
--- what is between the first byte and the last
+-- the bytes between the first and the last
 abbrev inside : List ℕ → List ℕ
 inside bytes = take (length bytes - 2) (drop 1 bytes)
 
@@ -87,14 +87,14 @@ quoted_is digits =
     all_three _ _ _ (le-leb _ _ (omega (arith, long))) refl
     (eq-eqb _ _ (ap (λ (n : ℕ). get_or (quoted digits) n 0) place ∙ get_or-append-add digits (34 ∷ []) 0 0))
 
--- what isn't in quotes names no version
+-- an item that isn't in quotes names no version
 pub version_unquoted : (item : List ℕ) → is_quoted item ≡ false → version_of item ≡ None
 version_unquoted item isnt =
     let v = number_inside item in
     none_unless (nat_le 1 v) (nat_le v 4294967295) (bytes_eq item (entity_tag v)) v
     (isnt_true _ (λ is. false≢true (sym isnt ∙ ap is_quoted ((bytes_eq-Decides item (entity_tag v)).0 is) ∙ quoted_is (decimal v))))
 
--- what is in quotes names the number in them
+-- an item in quotes names the number in them
 pub version_quoted : (item digits : List ℕ) → is_quoted item ≡ true → digits ≡ inside item → version_of item ≡ number_named digits
 version_quoted item digits is inner =
     ap version_of (quoted_inside item is ∙ ap quoted (sym inner)) ∙ version_in_quotes digits

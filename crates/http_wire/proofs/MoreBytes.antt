@@ -1,4 +1,4 @@
--- What is found in some bytes stays as it is where more bytes come after them: marks, chunks and bodies.
+-- Marks, chunks and bodies that are found in some bytes stay as they are where more bytes come after them.
 use Rattle.std.proofs.Common.{◌≡◌, ◌≢◌, ℕ, zero, suc, ◌+◌, ◌-◌, ◌≤◌, ◌&&◌, Bool, true, false, List, [], ◌∷◌, ◌++◌, length, take, drop, refl, sym, ap, subst, ◌∙◌, arith, cond, length-append}
 use Rattle.std.specs.Prelude.{Option, Some, None, option_map, nat_eq, nat_le, nat_lt}
 use Rattle.std.specs.List.{starts_with}
@@ -89,7 +89,7 @@ through_first_within mark k xs n is =
 
 -- ---- chunks
 
--- what is known of a chunk that is seen again where more bytes came: it is the same, and its data lies within the bytes
+-- a chunk that is seen again where more bytes came is the same, and its data lies within the bytes
 pub record Stays (c d : Chunk) (n : ℕ) : Type 0 where
   pub same : d ≡ c
   pub fits : (place size : ℕ) → c ≡ chunk.More place size → place + size + 2 ≤ n
@@ -221,7 +221,7 @@ followed_stay (chunk.More place size) xs ys f g isnt fits later settled =
     ap (λ zs. with_chunk zs (place + size + 2) (g size (place + size + 1))) piece
     ∙ ap (with_chunk (take size (drop place xs)) (place + size + 2)) same
 
--- what follows a chunk that is cut isn't settled
+-- the outcome of a chunk that is cut isn't settled
 cut_follows : (c : Chunk) (xs : List ℕ) (f : ℕ → ℕ → BodyFront) → follow c xs f ≢ unfinished → c ≢ chunk.Cut
 cut_follows c xs f settled = λ is. settled (ap (λ d. follow d xs f) is)
 

@@ -7,7 +7,7 @@ use Rattle.http_wire.specs.Heads.{line_end, length_through}
 use Rattle.http_wire.specs.Chunks.{BodyFront, whole, chunk_size, data_before, sized_chunk, lined_chunk, chunk_at, with_chunk, follow, chunks}
 use Rattle.http_wire.proofs.ChunkRows.{whole_behind}
 
--- what a chunk is where there may be more data, if it isn't wrong
+-- the chunk isn't wrong where there may be more data
 abbrev IsRight : Chunk → Type 0
 IsRight chunk.Cut = Unit {0}
 IsRight (chunk.Wrong status) = ⊥

@@ -1,4 +1,4 @@
--- What is noted of lines, one after another, and of the items of a value.
+-- Notes of lines, one after another, and of the items of a value.
 use Rattle.std.proofs.Common.{◌≡◌, ℕ, ◌||◌, Bool, true, false, List, [], ◌∷◌, ◌++◌, map, codes, refl, sym, ap, ◌∙◌, cond, append_assoc, append-nil}
 use Rattle.std.specs.Prelude.{◌==◌, ◌&&◌, not, Some, None, Result, Ok, Err, OnOk, filter_map}
 use Rattle.std.specs.List.{filter, flat_map, list_any, slice_split}
@@ -173,13 +173,13 @@ matched_line noted line tags is said =
 
 -- ---- what is asked
 
--- what is noted where nothing was
+-- the notes where nothing was noted before
 pub nothing_before : (matched named : Tags) (after : Noted) (lines : List Line) → matched ≡ no_tags → named ≡ no_tags →
     after ≡ noted_then (record { stands = false; matched = matched; named = named }) (noted_of lines) → after ≡ noted_of lines
 nothing_before matched named after lines none none_too is =
     is ∙ (λ i. noted_then (record { stands = false; matched = none i; named = none_too i }) (noted_of lines))
 
--- what follows of a success
+-- a consequence of a success
 pub on_ok : {A E P Q : Type 0} (r : Result A E) → OnOk r P → (P → Q) → OnOk r Q
 on_ok (Ok a) holds follows = follows holds
 on_ok (Err e) holds follows = holds
@@ -199,7 +199,7 @@ match_by [] = refl
 match_by (line ∷ lines) =
     match_at (has_name (codes "if-match") line) line (filter (has_name (codes "if-match")) lines) (list_any (has_name (codes "if-match")) lines) (match_by lines)
 
--- what was noted of lines asks what they ask
+-- the notes of lines make the same demands as the lines
 pub asked_of : (verb : Verb) (lines : List Line) → asked_by verb (noted_of lines) ≡ conditions_of verb lines
 asked_of verb lines = λ i. record {
   if_match = match_by lines i;

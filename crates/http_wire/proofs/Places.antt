@@ -1,4 +1,4 @@
--- What the searches of `memchr` find, in the words of the definitions.
+-- The results of the searches of `memchr`, in the words of the definitions.
 use Rattle.std.proofs.Common.{◌≡◌, ℕ, zero, suc, ◌+◌, ◌-◌, ◌<◌, ◌≤◌, ◌&&◌, Bool, true, false, true≢false, List, [], ◌∷◌, length, get_or, take, drop, refl, sym, ap, subst, ◌∙◌, arith, cond}
 use Rattle.std.specs.Prelude.{Option, Some, None, option_map, unwrap_or, ◌==◌, nat_eq, slice_index}
 use Rattle.std.specs.Borrow.{Bor}
@@ -15,7 +15,7 @@ use Rattle.http_wire.specs.declared.lines.Pieces.{Pieces}
 use Rattle.http_wire.specs.Pieces.{pieces_left}
 use Rattle.http_wire.specs.Heads.{length_through}
 
--- what isn't true is false
+-- a value that isn't true is false
 isnt_true : (b : Bool) → ¬ (b ≡ true) → b ≡ false
 isnt_true true isnt = absurd (isnt refl)
 isnt_true false isnt = refl
@@ -39,7 +39,7 @@ pub place_or_end : (byte : ℕ) (bytes : List ℕ) (r : Option ℕ) → IsFirstB
 place_or_end byte bytes None found = place_of_none byte bytes found
 place_or_end byte bytes (Some place) found = place_of_first byte bytes place found
 
--- what is before it, and what is after it
+-- the bytes before it, and the bytes after it
 pub cut_at : (byte : ℕ) (bytes : List ℕ) (place : ℕ) → IsFirstByte (is_byte byte) bytes (Some place) →
     (take place bytes ≡ before_first (λ b. b == byte) bytes)
     × (take (length bytes - (place + 1)) (drop (place + 1) bytes) ≡ after_first (λ b. b == byte) bytes)

@@ -16,7 +16,7 @@ use Rattle.http_wire.specs.ReplyFronts.{IsReplyHead, IsReplyJudged, too_many_lin
 use Rattle.http_wire.specs.ReplySeen.{IsReplyReadAs}
 use Rattle.http_wire.proofs.FieldLines.{all_lines}
 
--- what is said of the parts of a head at some spans
+-- the statement on the parts of a head at some spans
 pub record StandsAt (bytes : List ℕ) (headers : List HeaderSpan) (r : ResponseSpans) (p : ReplyParts) : Type 0 where
   pub status : p.status ≡ r.code
   pub newer : p.newer ≡ (r.version == 1)

@@ -1,4 +1,4 @@
--- What comes of the head of a reply.
+-- The step that follows from the head of a reply.
 use Rattle.std.proofs.Common.{◌≡◌, ◌≤◌, ◌<◌, ◌+◌, ℕ, List, Bool, true, false, length, take, drop, refl, subst, ap, ◌∙◌}
 use Rattle.std.specs.Prelude.{Some, None, Result, Ok, Err}
 use Rattle.http_wire.specs.declared.reply_heads.ReplyHead.{ReplyHead}

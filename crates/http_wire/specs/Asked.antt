@@ -11,7 +11,7 @@ use Rattle.http_wire.specs.declared.conditions.Noted.{Noted}
 use Rattle.http_wire.specs.Fields.{Line, has_name, values_of, trimmed}
 use Rattle.http_wire.specs.Conditions.{items_of, tags_of, without_weak, none_match_of, reads, asking_lines}
 
--- what is behind the start line of a head: after the first line feed that comes after the first space
+-- the bytes behind the start line of a head: after the first line feed that comes after the first space
 abbrev pub behind_start : List ℕ → List ℕ
 behind_start head = after_first (λ b. b == 10) (after_first (λ b. b == 32) head)
 
@@ -30,11 +30,11 @@ asking_lines_in true bytes = asking_lines (lines_in bytes)
 
 -- ---- what is noted of lines, one after another
 
--- what some items name, and then others
+-- the versions that some items name, and then others
 abbrev pub both_tags : Tags → Tags → Tags
 both_tags one other = record { any = one.any || other.any; list = one.list ++ other.list }
 
--- what is noted of lines: whether one is If-Match, and what the lines of each name say
+-- the notes of lines: whether one is If-Match, and the versions that the lines of each name say
 abbrev pub noted_of : List Line → Noted
 noted_of lines = record {
   stands = list_any (has_name (codes "if-match")) lines;
@@ -55,11 +55,11 @@ abbrev pub opened : Bool → List ℕ → List ℕ
 opened true item = without_weak item
 opened false item = item
 
--- what the items of a value name
+-- the versions that the items of a value name
 abbrev pub named_in : Bool → List (List ℕ) → Tags
 named_in weak items = tags_of (map (opened weak) (map trimmed items))
 
--- what was noted asks this
+-- the demands of notes
 abbrev pub asked_by : Verb → Noted → Conditions
 asked_by verb noted = record {
   if_match = if noted.stands then Some noted.matched else None;

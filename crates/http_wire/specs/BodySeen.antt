@@ -1,4 +1,4 @@
--- What code finds at the front of the bytes after a head, apart from where it lies in memory.
+-- The code's findings at the front of the bytes after a head, apart from their place in memory.
 use Rattle.std.specs.Prelude.{◌≤◌, ℕ, ◌+◌, length}
 use Rattle.http_wire.specs.declared.chunks.BodyScan.{BodyScan}
 use Rattle.http_wire.specs.declared.chunks.BodyScan.TheVariants as scan
@@ -6,7 +6,7 @@ use Rattle.http_wire.specs.declared.chunks.Chunk.{Chunk}
 use Rattle.http_wire.specs.declared.chunks.Chunk.TheVariants as chunk
 use Rattle.http_wire.specs.Chunks.{BodyFront, unfinished, faulty, whole}
 
--- what was found
+-- the finding
 abbrev pub body_seen : BodyScan → BodyFront
 body_seen scan.Unfinished = unfinished
 body_seen (scan.Faulty status) = faulty status

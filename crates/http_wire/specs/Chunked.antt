@@ -49,7 +49,7 @@ pub record IsChunkedBody (b : ChunkedBody) : Type 0 where
   pub trailers : length_through empty_line (line_end ++ b.trailers) ≡ Some (length (line_end ++ b.trailers))
   pub short : length (data_of b) ≤ longest_body
 
--- What is read as a whole body is what some body spells, at the front of the bytes.
+-- Each whole body that is read is spelled by some body at the front of the bytes.
 abbrev pub EachWholeIsSpelled : Type 0
 EachWholeIsSpelled = (bytes body : List ℕ) (used : ℕ) → chunks longest_body 0 0 bytes ≡ whole body used →
     (b : ChunkedBody) × (rest : List ℕ) × IsChunkedBody b × (bytes ≡ print_body b ++ rest) × (body ≡ data_of b) × (used ≡ length (print_body b))

@@ -1,6 +1,6 @@
 -- Bodies at the front of bytes, and how those in chunks are read from their front, with the places at which their
--- faults are seen (RFC 9112, section 7.1). What such a body is, Chunked.antt says as a grammar; that what is read is
--- what is spelled there, is the law `chunked_bodies_are_spelled`.
+-- faults are seen (RFC 9112, section 7.1). Chunked.antt defines such a body as a grammar. The law
+-- `chunked_bodies_are_spelled` says that the code reads the bodies that are spelled there.
 use Rattle.std.specs.Prelude.{ℕ, zero, suc, ◌+◌, ◌-◌, ◌==◌, List, [], ◌∷◌, ◌++◌, length, take, drop, ◌&&◌, nat_lt, nat_le, nat_eq, Option, Some, None, if◌then◌else◌}
 use Rattle.std.specs.List.{list_all, starts_with, before_first, after_first}
 use Rattle.std.specs.Char.{is_ascii_hexdigit}
@@ -10,8 +10,8 @@ use Rattle.http_wire.specs.declared.chunks.Chunk.{Chunk}
 use Rattle.http_wire.specs.declared.chunks.Chunk.TheVariants as chunk
 use Rattle.http_wire.specs.Heads.{line_end, empty_line, length_through}
 
--- What is at the front of the bytes after a head: the body isn't whole yet, or has a fault with its status, or is
--- whole, with its decoded bytes and how many coded ones it has.
+-- The front of the bytes after a head: the body isn't whole yet, or has a fault with its status, or is whole, with its
+-- decoded bytes and the number of its coded ones.
 pub data BodyFront : Type 0 where
   unfinished : BodyFront
   faulty : (status : ℕ) → BodyFront
@@ -64,7 +64,7 @@ with_chunk piece used unfinished = unfinished
 with_chunk piece used (faulty status) = faulty status
 with_chunk piece used (whole body others) = whole (piece ++ body) (used + others)
 
--- what comes of a chunk at the front of bytes, where `rest size skip` is what comes after it
+-- the outcome of a chunk at the front of bytes, where `rest size skip` is the outcome of those after it
 abbrev pub follow : Chunk → List ℕ → (ℕ → ℕ → BodyFront) → BodyFront
 follow chunk.Cut bytes rest = unfinished
 follow (chunk.Wrong status) bytes rest = faulty status

@@ -1,5 +1,5 @@
--- What the header lines of a request ask of the version of a property: If-Match and If-None-Match (RFC 9110, sections
--- 8.8.3, 13.1.1 and 13.1.2).
+-- The demands of the header lines of a request on the version of a property: If-Match and If-None-Match (RFC 9110,
+-- sections 8.8.3, 13.1.1 and 13.1.2).
 use Rattle.std.specs.Prelude.{◌≡◌, ◌≤◌, ℕ, ◌-◌, ◌==◌, List, [], ◌∷◌, ◌++◌, length, map, take, drop, codes, Bool, true, false, not, ◌&&◌, nat_eq, nat_le, filter_map, Option, Some, None, if◌then◌else◌}
 use Rattle.std.specs.List.{filter, flat_map, list_any, slice_split, starts_with}
 use Rattle.std.specs.Fmt.{decimal}
@@ -43,18 +43,18 @@ abbrev pub tags_of : List (List ℕ) → Tags
 tags_of items = record { any = list_any is_star items; list = filter_map version_of items }
 
 -- An item without the `W/` of a weak tag. If-None-Match compares weak tags as strong ones; If-Match takes none, so that
--- there an item with it names nothing (section 8.8.3.2). What is after it isn't trimmed again.
+-- there an item with it names nothing (section 8.8.3.2). The text after it isn't trimmed again.
 abbrev pub without_weak : List ℕ → List ℕ
 without_weak item = if starts_with nat_eq item (codes "W/") then drop 2 item else item
 
 -- ---- what is asked
 
--- what the values of If-Match ask, if there are any
+-- the demands of the values of If-Match, if there are any
 abbrev pub match_of : List (List ℕ) → Option Tags
 match_of [] = None
 match_of (value ∷ values) = Some (tags_of (items_of (value ∷ values)))
 
--- what the values of If-None-Match name
+-- the versions that the values of If-None-Match name
 abbrev pub none_match_of : List (List ℕ) → Tags
 none_match_of values = tags_of (map without_weak (items_of values))
 
@@ -68,8 +68,8 @@ reads verb.Patch = false
 reads verb.Delete = false
 reads verb.Other = false
 
--- What lines ask of the version. `*` of If-None-Match says of a request to read that its sender has any version, and of
--- another request that nothing is to be there.
+-- The demands of lines on the version. `*` of If-None-Match says of a request to read that its sender has any version,
+-- and of another request that nothing is to be there.
 abbrev pub conditions_of : Verb → List Line → Conditions
 conditions_of verb lines =
     let named = none_match_of (values_of (codes "if-none-match") lines) in
@@ -89,6 +89,6 @@ asking_lines lines = filter asks_for_version lines
 abbrev pub TagsAreReadAgain : Type 0
 TagsAreReadAgain = (version : ℕ) → 1 ≤ version → version ≤ 4294967295 → version_of (entity_tag version) ≡ Some version
 
--- what the lines of a head ask is what all its lines ask
+-- the asking lines of a head make the same demands as all its lines
 abbrev pub NoOtherLineAsks : Type 0
 NoOtherLineAsks = (verb : Verb) (lines : List Line) → conditions_of verb (asking_lines lines) ≡ conditions_of verb lines

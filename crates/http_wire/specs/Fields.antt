@@ -29,8 +29,8 @@ values_of name lines = map (λ line. line.1) (filter (has_name name) lines)
 abbrev pub asks_for_version : Line → Bool
 asks_for_version line = has_name (codes "if-match") line || has_name (codes "if-none-match") line
 
--- How often a field comes that may come once: not at all, once with this value, or more often. Nothing is asked of the
--- values of one that comes more often.
+-- The number of times that a field comes that may come once: not at all, once with this value, or more often. Nothing
+-- is asked of the values of one that comes more often.
 pub data Standing : Type 0 where
   absent : Standing
   once : (value : List ℕ) → Standing
@@ -92,7 +92,7 @@ takes_json item = takes_each (media_type item) || str_eq_ignore_ascii_case (medi
 abbrev pub takes_td : List ℕ → Bool
 takes_td item = takes_each (media_type item) || str_eq_ignore_ascii_case (media_type item) (codes "application/td+json")
 
--- what is taken by the values of `Accept`, if there are any
+-- the types that the values of `Accept` take, if there are any
 abbrev pub types_taken : List (List ℕ) → Option Accept
 types_taken [] = None
 types_taken (value ∷ values) = Some (record {

@@ -1,4 +1,4 @@
--- What code reads of a head, apart from where it lies in memory.
+-- The parts that the code reads of a head, apart from their place in memory.
 use Rattle.std.specs.Prelude.{◌≡◌, ◌≤◌, ℕ, List, [], ◌∷◌, ◌||◌, Bool, true, false, codes, Option, Some, None, Result, Ok, Err, if◌then◌else◌}
 use Rattle.httparse.specs.Grammar.{RequestHead}
 use Rattle.thing_ops.specs.declared.request.Accept.{Accept}
@@ -12,13 +12,13 @@ use Rattle.http_wire.specs.Conditions.{asking_lines}
 use Rattle.http_wire.specs.Asked.{lines_in}
 use Rattle.http_wire.specs.Judging.{IsJudged}
 
--- how often a field was found
+-- the number of times that a field was found
 abbrev pub standing_of : Found → Standing
 standing_of found.Absent = absent
 standing_of (found.Once value) = once value.now
 standing_of found.Often = often
 
--- what was read of the header lines
+-- the fields that were read of the header lines
 abbrev pub said_in : Fields → Said
 said_in f = record {
   host = standing_of f.host;
@@ -58,8 +58,7 @@ taken_if named value before = if named then Some (both_taken before (types_in va
 abbrev pub or_if : Bool → (List ℕ → Bool) → List ℕ → Bool → Bool
 or_if named test value before = before || (if named then test value else false)
 
--- What is said with one line more. The lines are read in one pass, because a pass for each field
--- took four times as long.
+-- The fields with one line more. The lines are read in one pass, because a pass for each field took four times as long.
 abbrev pub with_line : Line → Said → Said
 with_line line said = record {
   host = more_if (has_name (codes "host") line) line.1 said.host;

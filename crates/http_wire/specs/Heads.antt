@@ -1,4 +1,4 @@
--- Where a request head begins and ends, and what it is (RFC 9112, sections 2.1, 2.2 and 3).
+-- The beginning, the end and the grammar of a request head (RFC 9112, sections 2.1, 2.2 and 3).
 use Rattle.std.specs.Prelude.{◌≤◌, ℕ, ◌+◌, ◌==◌, List, [], ◌∷◌, ◌++◌, length, Bool, ◌&&◌, not, Option, Some, None, option_map, if◌then◌else◌}
 use Rattle.std.specs.List.{starts_with}
 use Rattle.std.specs.Prelude.{nat_eq}
@@ -14,7 +14,7 @@ skipped [] = []
 skipped (a ∷ []) = a ∷ []
 skipped (a ∷ b ∷ bytes) = if (a == 13) && (b == 10) then skipped bytes else a ∷ b ∷ bytes
 
--- How many bytes there are up to the first mark, the mark among them.
+-- The number of bytes up to the first mark, the mark among them.
 abbrev pub length_through : List ℕ → List ℕ → Option ℕ
 length_through mark [] = None
 length_through mark (b ∷ bytes) =
@@ -25,7 +25,7 @@ length_through mark (b ∷ bytes) =
 abbrev pub empty_line : List ℕ
 empty_line = line_end ++ line_end
 
--- how many line feeds there are
+-- the number of line feeds
 abbrev pub line_feeds : List ℕ → ℕ
 line_feeds [] = 0
 line_feeds (b ∷ bytes) = (if b == 10 then 1 else 0) + line_feeds bytes

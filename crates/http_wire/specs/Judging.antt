@@ -1,4 +1,4 @@
--- How a request head is judged, and how the body after it is framed (RFC 9112, sections 3.2 and 6).
+-- The judgement of a request head, and the framing of the body after it (RFC 9112, sections 3.2 and 6).
 use Rattle.std.specs.Prelude.{◌≡◌, ◌<◌, ◌≤◌, ℕ, List, length, codes, Bool, true, false, ◌&&◌, ◌||◌, not, nat_lt, Result, Ok, Err, if◌then◌else◌}
 use Rattle.std.specs.List.{list_all}
 use Rattle.std.specs.Char.{is_ascii_digit}
@@ -72,9 +72,9 @@ abbrev pub with_framing : RequestHead → Result Framing ℕ → Result FramedHe
 with_framing h (Err status) = Err status
 with_framing h (Ok f) = Ok (record { head = h; framing = f })
 
--- How bytes are judged that end as a head does, rule by rule: too many header lines are 431, where a head has as many
--- as line feeds but two; a CR or LF that isn't part of CR LF is 400, and so is what isn't one head by the grammar; then
--- the fields of the head are judged.
+-- The judgement of bytes that end as a head does, rule by rule. Too many header lines are 431, where a head has as many
+-- as line feeds but two. A CR or LF that isn't part of CR LF is 400, and so are bytes that aren't one head by the
+-- grammar. Then the fields of the head are judged.
 pub data IsJudged (bytes : List ℕ) (r : Result FramedHead ℕ) : Type 0 where
   too_many_lines : 66 < line_feeds bytes → r ≡ Err 431 → IsJudged bytes r
   bare_line_end : line_feeds bytes ≤ 66 → are_paired 0 bytes ≡ false → r ≡ Err 400 → IsJudged bytes r

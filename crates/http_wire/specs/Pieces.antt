@@ -1,4 +1,4 @@
--- What an iterator over pieces has left.
+-- The pieces that an iterator over pieces has left.
 use Rattle.std.specs.Prelude.{ℕ, ◌==◌, List, [], Option, Some, None}
 use Rattle.std.specs.Borrow.{Bor}
 use Rattle.std.specs.List.{slice_split}

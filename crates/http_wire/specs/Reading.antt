@@ -1,4 +1,4 @@
--- What the message of a request asks for (RFC 9110, sections 7.1 and 9; RFC 9112, section 3).
+-- The request that a message makes (RFC 9110, sections 7.1 and 9; RFC 9112, section 3).
 use Rattle.std.specs.Prelude.{◌≡◌, ◌≤◌, ℕ, ◌+◌, List, take, drop, codes, Option, Some, option_map, if◌then◌else◌}
 use Rattle.std.specs.Str.{bytes_eq}
 use Rattle.thing_ops.specs.declared.verb.Verb.{Verb}
@@ -21,7 +21,7 @@ verb_of method =
     else if bytes_eq method (codes "DELETE") then verb.Delete
     else verb.Other
 
--- what is after the `?` of a target
+-- the part after the `?` of a target
 abbrev pub query_of : List ℕ → List ℕ
 query_of target = drop (query_place target) target
 

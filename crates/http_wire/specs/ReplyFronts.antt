@@ -25,7 +25,7 @@ use Rattle.http_wire.specs.Stream.{stated_body}
 abbrev pub IsReplyHead : List ℕ → ResponseHead → Type 0
 IsReplyHead bytes h = ReadsResponse bytes h [] × (length h.fields ≤ 64)
 
--- what its header lines say
+-- the fields of its header lines
 abbrev pub said_in_reply : ResponseHead → Said
 said_in_reply h = said_by (map name_and_value h.fields)
 
@@ -71,7 +71,7 @@ judged_reply h =
     with_status (status_code h)
     (reply_framing (status_code h) (h.minor == 1) (said_in_reply h).content_length (said_in_reply h).transfer_encoding)
 
--- how bytes are judged that end as a head does
+-- the judgement of bytes that end as a head does
 pub data IsReplyJudged (bytes : List ℕ) (r : Result ReplyHead ℕ) : Type 0 where
   too_many_lines : 66 < line_feeds bytes → r ≡ Err 431 → IsReplyJudged bytes r
   no_head : line_feeds bytes ≤ 66 → ((h : ResponseHead) → ¬ (IsReplyHead bytes h)) → r ≡ Err 400 → IsReplyJudged bytes r
@@ -97,9 +97,9 @@ with_reply_body status taken (whole body used) = front.Reply status body (taken 
 
 -- ## The front
 
--- What is at the front of bytes of a stream that ended or goes on, after `before` bytes of it: the reply isn't whole, or
--- something is wrong, with the status that a server would answer, or the reply, with how many bytes of the stream there
--- are up to its end.
+-- The front of bytes of a stream that ended or goes on, after `before` bytes of it: the reply isn't whole, or something
+-- is wrong, with the status that a server would answer, or the reply, with the number of bytes of the stream up to its
+-- end.
 pub data IsReplyAfter (ended : Bool) (f : ReplyFront) : ℕ → List ℕ → Type 0 where
   no_end : (before : ℕ) (bytes : List ℕ) → length_through empty_line bytes ≡ None → f ≡ front.Awaited → IsReplyAfter ended f before bytes
   wrong_head : (before : ℕ) (bytes : List ℕ) (n fault : ℕ) → length_through empty_line bytes ≡ Some n → IsReplyJudged (take n bytes) (Err fault) →
@@ -109,12 +109,12 @@ pub data IsReplyAfter (ended : Bool) (f : ReplyFront) : ℕ → List ℕ → Typ
   final : (before : ℕ) (bytes : List ℕ) (n : ℕ) (h : ReplyHead) → length_through empty_line bytes ≡ Some n → IsReplyJudged (take n bytes) (Ok h) →
       is_interim h.status ≡ false → f ≡ with_reply_body h.status (before + n) (reply_body ended h.framing (drop n bytes)) → IsReplyAfter ended f before bytes
 
--- what is scanned of n bytes whose first ones have this front
+-- the result of scanning n bytes whose first ones have this front
 abbrev pub scanned_of : ℕ → ReplyFront → ReplyScan
 scanned_of n front.Awaited = if nat_lt longest_reply n then scan.TooLong else scan.Short
 scanned_of n (front.Wrong fault) = if fault == 413 then scan.TooLong else scan.Fault
 scanned_of n (front.Reply status body used) = if nat_le used longest_reply then scan.Whole status body else scan.TooLong
 
--- What is scanned of the bytes of a stream that ended or goes on.
+-- The result of scanning the bytes of a stream that ended or goes on.
 abbrev pub IsReply : List ℕ → Bool → ReplyScan → Type 0
 IsReply bytes ended r = (f : ReplyFront) × IsReplyAfter ended f 0 (take (longest_reply + 1) bytes) × (r ≡ scanned_of (length bytes) f)

@@ -1,4 +1,4 @@
--- What code reads of the head of a reply, and of what is after one, apart from where it lies in memory.
+-- The parts that the code reads of the head of a reply, and of the bytes after one, apart from their place in memory.
 use Rattle.std.specs.Prelude.{◌≡◌, ◌<◌, ◌≤◌, ℕ, ◌+◌, ◌==◌, List, length, drop, Bool, Option, Some, None}
 use Rattle.httparse.specs.Grammar.{ResponseHead, status_code}
 use Rattle.http_wire.specs.declared.reply_heads.ReplyParts.{ReplyParts}

@@ -1,4 +1,4 @@
--- What was scanned, apart from where it lies in memory.
+-- The result of scanning, apart from its place in memory.
 use Rattle.std.specs.Prelude.{◌≡◌, ◌≤◌, ℕ, List, length, Result}
 use Rattle.http_wire.specs.declared.scanned.Head.{Head}
 use Rattle.http_wire.specs.declared.scanned.Scanned.{Scanned}
@@ -7,7 +7,7 @@ use Rattle.http_wire.specs.Asked.{asking_lines_in}
 use Rattle.http_wire.specs.Stream.{PlainHead, Front, short, message, fault, with_head, longest_head}
 use Rattle.http_wire.specs.Judging.{FramedHead, IsJudged, longest_body}
 
--- what a head says
+-- the parts of a head
 abbrev pub plain_head : Head → PlainHead
 plain_head h = record {
   method = h.method.now;
@@ -18,13 +18,13 @@ plain_head h = record {
   asking = asking_lines_in h.conditional h.lines.now;
 }
 
--- what was found at the front of a stream
+-- the finding at the front of a stream
 abbrev pub front_of : Scanned → Front
 front_of (scanned.Short expect) = short expect
 front_of (scanned.Whole head body used expect) = message (plain_head head) body used expect
 front_of (scanned.Fault status expect) = fault status expect
 
--- what is at the front where this head ends after n bytes
+-- the front where this head ends after n bytes
 abbrev pub IsHeadFront : List ℕ → ℕ → List ℕ → Front → Type 0
 IsHeadFront head taken after f = (r : Result FramedHead ℕ) × IsJudged head r × (f ≡ with_head taken r after)
 

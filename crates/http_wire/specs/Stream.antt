@@ -31,7 +31,7 @@ pub record PlainHead : Type 0 where
   pub accept : Accept
   pub asking : List Line
 
--- what a head says
+-- the parts of a head
 abbrev pub plain_head_of : RequestHead → PlainHead
 plain_head_of h = record {
   method = h.method;
@@ -42,8 +42,8 @@ plain_head_of h = record {
   asking = asking_lines (lines_of h);
 }
 
--- What is at the front of a stream: a message that isn't whole yet, a whole one with its decoded body and how many
--- bytes of the stream it takes, or a fault with its status; each with whether a 100 reply is asked for.
+-- The front of a stream: a message that isn't whole yet, a whole one with its decoded body and the number of bytes that
+-- it takes of the stream, or a fault with its status; each with whether a 100 reply is asked for.
 pub data Front : Type 0 where
   short : (expect : Bool) → Front
   message : (head : PlainHead) (body : List ℕ) (used : ℕ) (expect : Bool) → Front
@@ -80,11 +80,11 @@ with_head taken (Ok h) bytes = with_body h.head taken (expects h.head h.framing)
 abbrev pub without_head : List ℕ → Front
 without_head bytes = if nat_le longest_head (length bytes) then fault 431 false else short false
 
--- how many bytes the head has that the bytes begin with
+-- the length of the head that the bytes begin with
 abbrev pub head_length : List ℕ → Option ℕ
 head_length bytes = length_through empty_line (take longest_head bytes)
 
--- what is at the front of bytes after `before` skipped ones
+-- the front of bytes after `before` skipped ones
 pub data IsFrontAfter (before : ℕ) (bytes : List ℕ) (f : Front) : Type 0 where
   no_end : head_length bytes ≡ None → f ≡ without_head bytes → IsFrontAfter before bytes f
   one_end : (n : ℕ) (r : Result FramedHead ℕ) → head_length bytes ≡ Some n → IsJudged (take n bytes) r →

@@ -16,6 +16,7 @@ use crate::Body;
 use crate::framing::LONGEST_BODY;
 use crate::heads::{front, length_through_mark, rest_from};
 use crate::lines::cut;
+use crate::statuses::{BAD_REQUEST, CONTENT_TOO_LARGE};
 use servient_base::put_bytes;
 
 /// The most bytes of a body in chunks, with chunk lines and trailers.
@@ -26,6 +27,12 @@ pub const LONGEST_REPLY: usize = 65536;
 
 /// The most bytes of a chunk line, with its CR LF.
 const LONGEST_LINE: usize = 64;
+
+/// The bytes of a CR LF.
+const LINE_END: usize = 2;
+
+/// The most digits of the size of a chunk.
+const MOST_DIGITS: usize = 8;
 
 /// The front of the bytes after a head.
 #[derive(Drop)]
@@ -66,10 +73,11 @@ pub fn chunked_at_front(bytes: &[u8]) -> BodyScan<'_>
     ensures ok { body_seen result ≡ within_longest bytes.now (chunks longest_body 0 0 (take longest_coded bytes.now)) }
     ensures within { IsWithin longest_body result (length bytes.now) }
 {
+    // The first bytes alone are read, so that a call takes no longer, whatever comes behind them.
     match chunks_at_front(LONGEST_BODY, front(bytes, LONGEST_CODED)) {
         BodyScan::Unfinished => {
             if bytes.len() >= LONGEST_CODED {
-                BodyScan::Faulty(413)
+                BodyScan::Faulty(CONTENT_TOO_LARGE)
             } else {
                 BodyScan::Unfinished
             }
@@ -99,7 +107,7 @@ pub fn chunks_at_front(most: usize, bytes: &[u8]) -> BodyScan<'_>
                 };
             }
             Chunk::More { place: after, size } => {
-                place += after + size + 2;
+                place += after + size + LINE_END;
                 sum += size;
             }
         }
@@ -112,10 +120,11 @@ fn chunk_at(most: usize, sum: usize, bytes: &[u8]) -> Chunk
     ensures ok { result ≡ chunk_of most sum bytes.now }
     ensures within { IsChunkWithin most sum (length bytes.now) result }
 {
+    // A line is short, since a server ought to limit chunk extensions (RFC 9112, section 7.1.1).
     match length_through_mark(b"\r\n", front(bytes, LONGEST_LINE)) {
         None => {
             if bytes.len() >= LONGEST_LINE {
-                Chunk::Wrong(400)
+                Chunk::Wrong(BAD_REQUEST)
             } else {
                 Chunk::Cut
             }
@@ -132,12 +141,12 @@ fn sized_at(most: usize, sum: usize, bytes: &[u8], end: usize) -> Chunk
     ensures ok { result ≡ sized_chunk most sum bytes.now end (chunk_size (take (end - 2) bytes.now)) }
     ensures within { IsChunkWithin most sum (length bytes.now) result }
 {
-    match size_of(&bytes[..end - 2]) {
-        None => Chunk::Wrong(400),
-        Some(0) => last_at(end - 2, &bytes[end - 2..]),
+    match size_of(&bytes[..end - LINE_END]) {
+        None => Chunk::Wrong(BAD_REQUEST),
+        Some(0) => last_at(end - LINE_END, &bytes[end - LINE_END..]),
         Some(size) => {
             if size > most - sum {
-                Chunk::Wrong(413)
+                Chunk::Wrong(CONTENT_TOO_LARGE)
             } else {
                 data_at(end, size, &bytes[end..])
             }
@@ -145,7 +154,7 @@ fn sized_at(most: usize, sum: usize, bytes: &[u8], end: usize) -> Chunk
     }
 }
 
-/// The last chunk, from the CR LF of its line on.
+/// The last chunk, from the CR LF of its line on, since without trailers that CR LF is part of the mark at the end.
 fn last_at(place: usize, bytes: &[u8]) -> Chunk
     requires { place + length bytes.now < 2 ^ 64 }
     ensures ok { result ≡ trailers_to place (length_through empty_line bytes.now) }
@@ -166,7 +175,7 @@ fn data_at(place: usize, size: usize, bytes: &[u8]) -> Chunk
     }
     match &bytes[size..] {
         [b'\r', b'\n', ..] => Chunk::More { place, size },
-        [_, _, ..] => Chunk::Wrong(400),
+        [_, _, ..] => Chunk::Wrong(BAD_REQUEST),
         _ => Chunk::Cut,
     }
 }
@@ -179,7 +188,7 @@ fn size_of(line: &[u8]) -> Option<usize>
     if !is_extension(extension) {
         return None;
     }
-    if !digits.is_empty() && digits.len() <= 8 && are_digits(digits) {
+    if !digits.is_empty() && digits.len() <= MOST_DIGITS && are_digits(digits) {
         Some(hexadecimal(digits))
     } else {
         None
@@ -235,10 +244,11 @@ pub fn copy_chunks(coded: &[u8], out: &mut [u8])
     let mut sum = 0;
     loop {
         match chunk_at(LONGEST_REPLY, sum, rest_from(coded, place)) {
+            // The last chunk alone comes here, since the bytes are one body.
             Chunk::Cut | Chunk::Wrong(_) | Chunk::Last(_) => return,
             Chunk::More { place: after, size } => {
                 sum = put_bytes(out, sum, part(rest_from(coded, place), after, size));
-                place += after + size + 2;
+                place += after + size + LINE_END;
             }
         }
     }

@@ -1,5 +1,5 @@
-//! What the header lines of a request ask of the version of a property (RFC 9110, section 13.1). They are read only
-//! where one of them is If-Match or If-None-Match.
+//! The demands of the header lines of a request on the version of a property (RFC 9110, section 13.1). The lines are
+//! read only where one of them is If-Match or If-None-Match.
 
 ghost use Rattle.std.specs.Prelude.{◌≡◌, ◌≤◌, ◌∷◌, [], ◌==◌, length, true, IfOk, OnOk};
 ghost use Rattle.std.specs.List.{slice_split};
@@ -14,17 +14,24 @@ use servient_base::parse_decimal;
 use std::alloc::Global;
 use thing_ops::{Conditions, NoMemory, Tags, Verb};
 
+/// The bytes of the `W/` of a weak tag.
+const WEAK_MARK: usize = 2;
+
+/// The bytes of the quotes round a tag.
+const QUOTES: usize = 2;
+
 impl Head<'_> {
     ghost use Rattle.std.specs.Prelude.{◌≡◌, true, IfOk, IfErr};
     ghost use Rattle.http_wire.specs.Conditions.{conditions_of};
     ghost use Rattle.http_wire.specs.Scanned.{plain_head};
 
-    /// What it asks of the version of a property, where its verb is this one. Memory is taken only where a line asks
+    /// Its demands on the version of a property, where its verb is this one. Memory is taken only where a line asks
     /// for a version.
     pub fn conditions(&self, alloc: Global, verb: Verb) -> Result<Conditions, NoMemory>
         ensures asked { IfOk result (λ c. c ≡ conditions_of verb (plain_head self.now).asking) }
         ensures memory { IfErr result (λ _. self.now.conditional ≡ true) }
     {
+        // Asked first, so that a request without conditions takes no memory.
         if self.conditional {
             conditions_in(alloc, verb, self.lines)
         } else {
@@ -33,18 +40,18 @@ impl Head<'_> {
     }
 }
 
-/// What was noted of some header lines.
+/// The notes of some header lines.
 #[derive(Drop)]
 pub struct Noted {
     /// One of them is If-Match.
     pub stands: bool,
-    /// What the lines If-Match name.
+    /// The versions that the lines If-Match name.
     pub matched: Tags,
-    /// What the lines If-None-Match name.
+    /// The versions that the lines If-None-Match name.
     pub named: Tags,
 }
 
-/// What header lines ask.
+/// The demands of header lines.
 fn conditions_in(alloc: Global, verb: Verb, lines: &[u8]) -> Result<Conditions, NoMemory>
     ensures { IfOk result (λ c. c ≡ conditions_of verb (asking_lines (lines_in lines.now))) }
 {
@@ -57,7 +64,7 @@ fn conditions_in(alloc: Global, verb: Verb, lines: &[u8]) -> Result<Conditions, 
     Ok(asked_by(noted, verb))
 }
 
-/// Notes what header lines say.
+/// Notes what header lines say. The notes are lent, since a function that owned them would give them up at each `?`.
 fn note_lines(noted: &mut Noted, lines: &[u8]) -> Result<(), NoMemory>
     ensures { OnOk result (noted.new ≡ noted_then noted.old (noted_of (lines_in lines.now))) }
 {
@@ -123,7 +130,7 @@ fn opened(item: &[u8], weak: bool) -> &[u8]
     ensures { result.now ≡ opened_item weak item.now }
 {
     if weak && item.starts_with(b"W/") {
-        &item[2..]
+        &item[WEAK_MARK..]
     } else {
         item
     }
@@ -145,7 +152,7 @@ fn is_quoted(item: &[u8]) -> bool
     ensures ok { result ≡ stands_quoted item.now }
     ensures bound { result ≡ true → 2 ≤ length item.now }
 {
-    2 <= item.len() && item[0] == b'"' && item[item.len() - 1] == b'"'
+    QUOTES <= item.len() && item[0] == b'"' && item[item.len() - 1] == b'"'
 }
 
 /// The number from 1 to 4,294,967,295 that bytes say in decimal.
@@ -168,7 +175,7 @@ fn number_in(text: &str) -> Option<u32>
     }
 }
 
-/// What was noted asks this, where the verb is this one.
+/// The demands of the notes, where the verb is this one.
 fn asked_by(noted: Noted, verb: Verb) -> Conditions
     ensures { result ≡ asked_by_noted verb noted }
 {

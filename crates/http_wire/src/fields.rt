@@ -1,4 +1,4 @@
-//! The fields of a head, read in one pass over its header lines.
+//! The fields of a head, read in one pass over its header lines, since a pass for each field takes longer.
 
 ghost use Rattle.std.specs.Prelude.{◌≡◌, ◌||◌, [], map, length, true, false, None};
 ghost use Rattle.std.specs.List.{All};

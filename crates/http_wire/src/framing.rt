@@ -10,6 +10,7 @@ ghost use Rattle.http_wire.specs.Found.{standing_of, said_in};
 
 use crate::fields::{Found, is_alike};
 use crate::heads::HeadParts;
+use crate::statuses::{BAD_REQUEST, CONTENT_TOO_LARGE, NOT_IMPLEMENTED};
 
 /// The most bytes that a body has when it is decoded.
 pub const LONGEST_BODY: usize = 16384;
@@ -29,11 +30,13 @@ pub fn framing_of(head: &HeadParts<'_>) -> Result<Framing, u16>
     ensures bound { IfOk result (IsBounded longest_body) }
 {
     let fields = &head.fields;
+    // Without Host, or with several, it is refused, since a server must do so (RFC 9112, section 3.2).
     if head.newer && !matches!(fields.host, Found::Once(_)) {
-        return Err(400);
+        return Err(BAD_REQUEST);
     }
+    // The same with several Content-Type, since a sender may write it once alone (RFC 9110, section 5.3).
     if matches!(fields.content_type, Found::Often) {
-        return Err(400);
+        return Err(BAD_REQUEST);
     }
     read_framing(
         LONGEST_BODY,
@@ -54,18 +57,20 @@ pub fn read_framing(
     ensures ok { result ≡ framing_by most newer (standing_of length.entry) (standing_of coding.entry) }
     ensures bound { IfOk result (IsBounded most) }
 {
+    // Both fields are refused, since they may be an attempt to smuggle a request (RFC 9112, section 6.3). Each case has
+    // an arm of its own, since that gives the proof an equation.
     match length {
         Found::Absent => match coding {
             Found::Absent => Ok(Framing::Stated(0)),
             Found::Once(value) => coded(newer, value),
-            Found::Often => Err(400),
+            Found::Often => Err(BAD_REQUEST),
         },
         Found::Once(value) => match coding {
             Found::Absent => stated(most, value),
-            Found::Once(_) => Err(400),
-            Found::Often => Err(400),
+            Found::Once(_) => Err(BAD_REQUEST),
+            Found::Often => Err(BAD_REQUEST),
         },
-        Found::Often => Err(400),
+        Found::Often => Err(BAD_REQUEST),
     }
 }
 
@@ -74,12 +79,13 @@ fn coded(newer: bool, value: &[u8]) -> Result<Framing, u16>
     ensures ok { result ≡ coded_framing newer value.now }
     ensures bound { (most : ℕ) → IfOk result (IsBounded most) }
 {
+    // In HTTP/1.0 it is a fault, as RFC 9112 says in section 6.1.
     if !newer {
-        Err(400)
+        Err(BAD_REQUEST)
     } else if is_alike(value, b"chunked") {
         Ok(Framing::Chunked)
     } else {
-        Err(501)
+        Err(NOT_IMPLEMENTED)
     }
 }
 
@@ -90,11 +96,11 @@ fn stated(most: usize, value: &[u8]) -> Result<Framing, u16>
     ensures bound { IfOk result (IsBounded most) }
 {
     if !is_number(value) {
-        return Err(400);
+        return Err(BAD_REQUEST);
     }
     let length = number(most, value);
     if length > most {
-        Err(413)
+        Err(CONTENT_TOO_LARGE)
     } else {
         Ok(Framing::Stated(length))
     }
@@ -127,7 +133,7 @@ fn number(most: usize, value: &[u8]) -> usize
     number
 }
 
-/// A number with one digit more, if it is at most so much; else one more than that.
+/// A number with one digit more, if it is at most so much; else one more than that, so that it never wraps.
 fn with_digit(most: usize, number: usize, byte: u8) -> usize
     requires most { most ≤ longest_reply }
     requires digit { is_ascii_digit byte ≡ true }

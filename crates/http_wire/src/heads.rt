@@ -6,6 +6,7 @@ ghost use Rattle.http_wire.specs.Found.{IsReadAs};
 
 use crate::fields::{Fields, fields_in};
 use crate::lines::cut;
+use crate::statuses::{BAD_REQUEST, HEAD_TOO_LARGE};
 use httparse::Status;
 use httparse::spans::{EMPTY_HEADER_SPAN, parse_request};
 use memchr::memmem;
@@ -16,7 +17,7 @@ pub const MOST_LINES: usize = 64;
 /// The line feeds of a head with the most header lines: 64, the start line and the empty line.
 pub const MOST_LINE_FEEDS: usize = 66;
 
-/// The bytes after the CR LF pairs in front.
+/// The bytes after the CR LF pairs in front, which a server ignores, as RFC 9112 says in section 2.2.
 pub fn skip_pairs(bytes: &[u8]) -> &[u8]
     ensures ok { result.now ≡ skipped bytes.now }
     ensures bound { length result.now ≤ length bytes.now }
@@ -110,11 +111,13 @@ pub fn read_head(head: &[u8]) -> Result<HeadParts<'_>, u16>
     ensures ok { IsReadAs head.now result }
     ensures target { IfOk result (λ p. length p.target.now ≤ length head.now) }
 {
+    // Counted first, since too many lines are 431, and each error of `httparse` is 400.
     if count_line_feeds(head) > MOST_LINE_FEEDS {
-        return Err(431);
+        return Err(HEAD_TOO_LARGE);
     }
+    // Asked before `httparse` reads, since that takes bare line feeds too.
     if !has_pairs_alone(head) {
-        return Err(400);
+        return Err(BAD_REQUEST);
     }
     let mut headers = [EMPTY_HEADER_SPAN; MOST_LINES];
     match parse_request(head, &mut headers) {
@@ -130,9 +133,9 @@ pub fn read_head(head: &[u8]) -> Result<HeadParts<'_>, u16>
                     lines,
                 })
             } else {
-                Err(400)
+                Err(BAD_REQUEST)
             }
         }
-        _ => Err(400),
+        _ => Err(BAD_REQUEST),
     }
 }

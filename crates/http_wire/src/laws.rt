@@ -23,7 +23,7 @@ pub fn one_reply()
     ensures { (bytes : List ℕ) (ended : Bool) (r s : ReplyScan) → IsReply bytes ended r → IsReply bytes ended s → r ≡ s }
 {}
 
-/// A whole body in chunks is read exactly where one is spelled (RFC 9112, section 7.1): what is read as one is the
+/// A whole body in chunks is read exactly where one is spelled (RFC 9112, section 7.1): each one that is read is the
 /// print of chunks, a last one and trailers, and each such print is read, with the data of its chunks.
 pub fn chunked_bodies_are_spelled()
     ensures whole { EachWholeIsSpelled }

@@ -48,6 +48,7 @@ mod reply_heads;
 mod reply_scan;
 mod request;
 mod scanned;
+mod statuses;
 mod stream;
 mod target;
 
@@ -60,5 +61,6 @@ pub use reply::{Reply, has_reason, put_reply};
 pub use reply_scan::{ReplyScan, scan_reply};
 pub use request::{RequestParts, request_of, verb_of};
 pub use scanned::{Body, Head, Scanned};
+pub use statuses::{BAD_REQUEST, CONTINUE, NO_CONTENT, OK};
 pub use stream::scan;
 pub use target::{TargetFault, segments, segments_behind};

@@ -7,6 +7,7 @@ ghost use Rattle.http_wire.specs.Conditions.{entity_tag};
 ghost use Rattle.http_wire.specs.Writing.{http_reply, phrase_of, field_line, written_length};
 ghost use Rattle.http_wire.specs.Replies.{plain_reply};
 
+use crate::statuses::{CONTINUE, NO_CONTENT, NOT_MODIFIED};
 use itoa::Buffer;
 use servient_base::{put_bytes, put_piece};
 
@@ -38,6 +39,7 @@ pub fn put_reply(reply: &Reply<'_>, out: &mut [u8]) -> Option<usize>
     requires { IsSome (phrase_of reply.now.status) }
     ensures { PutsIfRoom (http_reply (plain_reply reply.now)) 0 out.old out.new result }
 {
+    // Rooms for the tag and the length, so that no memory is taken.
     let mut digits = Buffer::new();
     let mut tag = [0; LONGEST_TAG];
     let at = put_line(out, 0, b"HTTP/1.1 ", phrase(reply.status))?;
@@ -107,7 +109,8 @@ fn tag_of(version: Option<u32>, room: &mut [u8; LONGEST_TAG]) -> Option<&[u8]>
 fn length_of<'a>(reply: &Reply<'_>, digits: &'a mut Buffer) -> Option<&'a [u8]>
     ensures { option_map (λ t. t.now) result ≡ option_map decimal (written_length (plain_reply reply.now)) }
 {
-    if reply.status == 100 || reply.status == 204 || reply.status == 304 {
+    // Not with 100 and 204, as RFC 9110 says in section 8.6; nor with 304, since it would be that of another payload.
+    if reply.status == CONTINUE || reply.status == NO_CONTENT || reply.status == NOT_MODIFIED {
         return None;
     }
     match reply.length {

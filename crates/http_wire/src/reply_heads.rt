@@ -12,19 +12,26 @@ use crate::chunks::LONGEST_REPLY;
 use crate::fields::{Fields, Found, fields_in};
 use crate::framing::{Framing, read_framing};
 use crate::heads::{MOST_LINE_FEEDS, MOST_LINES, count_line_feeds};
+use crate::statuses::{BAD_REQUEST, CONTENT_TOO_LARGE, HEAD_TOO_LARGE, NO_CONTENT, NOT_MODIFIED};
 use httparse::Status;
 use httparse::spans::{EMPTY_HEADER_SPAN, HeaderSpan, ResponseSpans, parse_response};
+
+/// The first status of an interim reply (RFC 9110, section 15.2).
+const FIRST_INTERIM: u16 = 100;
+
+/// The last status of an interim reply.
+const LAST_INTERIM: u16 = 199;
 
 /// A head of a reply without fault.
 #[derive(Clone, Copy, Drop)]
 pub struct ReplyHead {
     /// The status.
     pub status: u16,
-    /// How long the body after it is; none where it lasts until the stream ends.
+    /// The length of the body after it; none where the body lasts until the stream ends.
     pub framing: Option<Framing>,
 }
 
-/// What a head says.
+/// The parts of a head.
 #[derive(Clone, Copy, Drop)]
 pub struct ReplyParts<'a> {
     /// The status.
@@ -41,11 +48,11 @@ pub fn judge_reply(head: &[u8]) -> Result<ReplyHead, u16>
     ensures { IsReplyJudged head.now result }
 {
     if count_line_feeds(head) > MOST_LINE_FEEDS {
-        return Err(431);
+        return Err(HEAD_TOO_LARGE);
     }
     match read_reply(head) {
         Some(parts) => framed(&parts),
-        None => Err(400),
+        None => Err(BAD_REQUEST),
     }
 }
 
@@ -84,7 +91,8 @@ fn no_framing(framing: Result<Framing, u16>) -> Result<Option<Framing>, u16>
     ensures { result ≡ no_framing_of framing }
 {
     match framing {
-        Ok(_) | Err(413) => Ok(Some(Framing::Stated(0))),
+        // A length that is too great is no fault, since no body of that length comes.
+        Ok(_) | Err(CONTENT_TOO_LARGE) => Ok(Some(Framing::Stated(0))),
         Err(fault) => Err(fault),
     }
 }
@@ -103,6 +111,7 @@ fn some_framing(framing: Result<Framing, u16>) -> Result<Option<Framing>, u16>
 fn are_absent(length: Found<'_>, coding: Found<'_>) -> bool
     ensures { result ≡ are_absent_of (standing_of length.entry) (standing_of coding.entry) }
 {
+    // Each case has an arm of its own, since that gives the proof an equation.
     match length {
         Found::Absent => match coding {
             Found::Absent => true,
@@ -118,14 +127,14 @@ fn are_absent(length: Found<'_>, coding: Found<'_>) -> bool
 pub fn is_interim(status: u16) -> bool
     ensures { result ≡ is_interim_of status }
 {
-    100 <= status && status <= 199
+    FIRST_INTERIM <= status && status <= LAST_INTERIM
 }
 
 /// A reply with this status has no body (RFC 9112, section 6.3).
 fn is_bodiless(status: u16) -> bool
     ensures { result ≡ has_no_body status }
 {
-    is_interim(status) || status == 204 || status == 304
+    is_interim(status) || status == NO_CONTENT || status == NOT_MODIFIED
 }
 
 /// The parts of a head, where the bytes are exactly one of at most 64 header lines.

@@ -11,6 +11,7 @@ use crate::chunks::{BodyScan, LONGEST_REPLY, chunks_at_front};
 use crate::framing::Framing;
 use crate::heads::{front, length_through_mark, rest_from};
 use crate::reply_heads::{ReplyHead, is_interim, judge_reply};
+use crate::statuses::CONTENT_TOO_LARGE;
 
 /// The outcome of scanning a stream of replies.
 #[derive(Drop)]
@@ -63,6 +64,7 @@ pub enum ReplyStep<'a> {
 pub fn scan_reply(bytes: &[u8], ended: bool) -> ReplyScan<'_>
     ensures { IsReply bytes.now ended result }
 {
+    // A byte more than a reply may have, so that one that is too long is seen.
     let found = reply_in(front(bytes, LONGEST_REPLY + 1), ended);
     scanned(bytes.len(), found)
 }
@@ -79,7 +81,7 @@ fn scanned(size: usize, found: ReplyFront<'_>) -> ReplyScan<'_>
                 ReplyScan::Short
             }
         }
-        ReplyFront::Wrong(413) => ReplyScan::TooLong,
+        ReplyFront::Wrong(CONTENT_TOO_LARGE) => ReplyScan::TooLong,
         ReplyFront::Wrong(_) => ReplyScan::Fault,
         ReplyFront::Reply { status, body, used } => {
             if used <= LONGEST_REPLY {

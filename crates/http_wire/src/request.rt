@@ -12,7 +12,8 @@ use crate::{Body, Head, TargetFault};
 use std::alloc::Global;
 use thing_ops::{Accept, Conditions, Format, Request, Segments, Verb};
 
-/// The parts of a request, but for its query and its body, which lie in a buffer, one after the other.
+/// The parts of a request, but for its query and its body, which lie in a buffer, one after the other, so that they
+/// take no memory.
 #[derive(Drop)]
 pub struct RequestParts {
     /// Its verb.
@@ -64,7 +65,8 @@ pub fn request_of(
     })
 }
 
-/// The verb of a method, whose name is taken in the case in which it came (RFC 9110, section 9.1).
+/// The verb of a method. Its name is taken in the case in which it came, since methods are case-sensitive (RFC 9110,
+/// section 9.1).
 pub fn verb_of(method: &[u8]) -> Verb
     ensures { result ≡ verb_named method.now }
 {

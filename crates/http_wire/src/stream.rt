@@ -11,6 +11,7 @@ use crate::chunks::{BodyScan, chunked_at_front};
 use crate::fields::{EITHER_TYPE, format};
 use crate::framing::{Framing, framing_of, has_body};
 use crate::heads::{HeadParts, front, length_through_mark, read_head, skip_pairs};
+use crate::statuses::HEAD_TOO_LARGE;
 use crate::{Body, Head, Scanned};
 
 /// The most bytes of a head.
@@ -25,11 +26,12 @@ pub fn scan(bytes: &[u8]) -> Scanned<'_>
 {
     let rest = skip_pairs(bytes);
     let skipped = bytes.len() - rest.len();
+    // The first bytes alone are searched, so that a head without an end takes no longer.
     match length_through_mark(b"\r\n\r\n", front(rest, LONGEST_HEAD)) {
         None => {
             if rest.len() >= LONGEST_HEAD {
                 Scanned::Fault {
-                    status: 431,
+                    status: HEAD_TOO_LARGE,
                     expect: false,
                 }
             } else {
@@ -70,6 +72,7 @@ fn scan_body<'a>(
         front_of result ≡ with_body h taken (expects h framing) (body_front framing after.now) }
     ensures within { TakesBetween taken (taken + length after.now) result }
 {
+    // Not in HTTP/1.0, nor without a body, as RFC 9110 says in section 10.1.1.
     let expect = head.newer && has_body(framing) && head.fields.continues;
     let found = match framing {
         Framing::Stated(size) => Body::stated_at_front(size, after),
@@ -82,6 +85,7 @@ fn scan_body<'a>(
             head: Head {
                 method: head.method,
                 target: head.target,
+                // HTTP/1.0 closes, since connections persist by default in HTTP/1.1 alone (RFC 9112, section 9.3).
                 close: !head.newer || head.fields.closes,
                 format: format(head.fields.content_type),
                 accept: head.fields.accept.unwrap_or(EITHER_TYPE),

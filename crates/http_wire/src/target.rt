@@ -11,6 +11,9 @@ use std::alloc::{AllocError, Global};
 use thing_ops::{NoMemory, Segments};
 use thiserror::Error;
 
+/// The bytes of `http://`.
+const SCHEME: usize = 7;
+
 /// The reason for which the path of a target isn't read.
 #[derive(Clone, Copy, Debug, PartialEq, Eq, Drop, Error)]
 pub enum TargetFault {
@@ -50,7 +53,8 @@ pub fn segments(alloc: Global, target: &[u8]) -> Result<(Segments, usize), Targe
     }
 }
 
-/// The path in what comes before a query. It is a function because the prover forgets at a join which form was found.
+/// The path in the bytes before a query. It is a function because the prover forgets at a join which form was found.
+/// The absolute form is read too, since a server must accept it (RFC 9112, section 3.2.2).
 fn path(before: &[u8]) -> Option<&[u8]>
     ensures ok { option_map (λ p. p.now) result ≡ path_in before.now }
     ensures begins { IfSome result (λ p. 0 < length p.now) }
@@ -58,7 +62,7 @@ fn path(before: &[u8]) -> Option<&[u8]>
     if before.starts_with(b"/") {
         Some(before)
     } else if before.starts_with(b"http://") {
-        behind_authority(&before[7..])
+        behind_authority(&before[SCHEME..])
     } else {
         None
     }

@@ -11,7 +11,7 @@ struct Run {
     outcome: String,
 }
 
-/// What comes of a text with this byte in the place of `@`.
+/// The outcome of a text with this byte in the place of `@`.
 fn outcome_of(alloc: Global, before: &[u8], byte: u8, after: &[u8]) -> Result<String, AllocError> {
     let mut bytes = Vec::new(alloc);
     bytes.extend_from_slice(before)?;

@@ -9,7 +9,7 @@ use std::fmt::Write;
 /// The most bytes of room in a row.
 const MOST_ROOM: u64 = 1000;
 
-/// What a room holds before.
+/// The byte that fills a room before.
 const BEFORE: u8 = b'#';
 
 /// A room of this size.

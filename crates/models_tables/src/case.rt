@@ -95,7 +95,7 @@ impl Case {
         }
     }
 
-    /// What the models begin with from here on.
+    /// Sets the text with which the models begin from here on.
     fn start(&mut self, text: &str) -> Result<(), AllocError> {
         self.start.clear();
         self.start.push_str(text)

@@ -50,7 +50,8 @@ fn put_line(
     text.push_str("\n")
 }
 
-/// Writes a case with what came of its lines.
+/// Writes a case with what came of its lines. The texts are lent, because a function that owned them too would give up
+/// all at each `?`.
 fn put_case(
     text: &mut String,
     said: &mut String,

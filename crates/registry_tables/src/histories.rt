@@ -22,9 +22,9 @@ use std::str;
 use wot_json::Tree;
 use wot_registry::{RegFault, Registry};
 
-/// When the clock began: 2000-02-29T00:00:00Z.
+/// The moment at which the clock began: 2000-02-29T00:00:00Z.
 const EPOCH: u64 = 951_782_400_000;
-/// What a valid description begins with.
+/// The beginning of a valid description.
 const START: &str =
     r#"{"@context":"https://www.w3.org/2022/wot/td/v1.1","security":"n","securityDefinitions":{"n":{"scheme":"nosec"}},"title":"T""#;
 
@@ -39,7 +39,8 @@ fn described(alloc: Global, members: &str) -> Result<Tree, AllocError> {
     tree_of(alloc, text.as_str())
 }
 
-/// Writes the answer of a call without a value.
+/// Writes the answer of a call without a value. The text is lent, since a function pays at each early exit for what it
+/// owns.
 fn put_done(text: &mut String, outcome: Result<(), RegFault>) -> Result<(), AllocError> {
     match outcome {
         Ok(()) => text.push_str("done"),

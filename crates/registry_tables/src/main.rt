@@ -1,5 +1,5 @@
-//! Tables of the times of a directory's entries. Each word names a file of cases, whose rows are what is given, ` => `,
-//! and what comes of it.
+//! Tables of the times of a directory's entries. Each word names a file of cases, whose rows are an input, ` => `, and
+//! its outcome.
 //!
 //! ```text
 //! dates       MILLISECONDS => the text of the date and time that lies so many after the start of 1970
@@ -8,7 +8,7 @@
 //! histories   MOMENT CALL => what it answers, where the calls up to an empty line are those of one directory
 //! ```
 //!
-//! The program prints each row with what does come of it, and each other line as it is: so it prints its files, if all
+//! The program prints each row with its real outcome, and each other line as it is, so that it prints its files, if all
 //! is right.
 #![tactic(auto)]
 

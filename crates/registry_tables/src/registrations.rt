@@ -1,4 +1,5 @@
-//! Rows on registration information: what a description asks for and what is kept of it, and what is said of its times.
+//! Rows on registration information: the time to live that a description asks for, the rest of it, and the times that
+//! are said.
 
 ghost use Rattle.std.specs.Prelude.{◌≤◌};
 ghost use Rattle.wot_registry.specs.Times.{last_moment};
@@ -14,7 +15,7 @@ const LAST_MOMENT: u64 = 1_000_000_000_000_000;
 /// The latest beginning of a clock.
 const LATEST_EPOCH: u64 = 253_402_300_799_999;
 
-/// The tree of a JSON text; what is none counts as out of memory.
+/// The tree of a JSON text; a text that is none counts as out of memory.
 pub fn tree_of(alloc: Global, text: &str) -> Result<Tree, AllocError> {
     match read(alloc, text.as_bytes()) {
         Ok(tree) => Ok(tree),
@@ -36,7 +37,7 @@ fn put_ttl(text: &mut String, ttl: Option<u32>) -> Result<(), AllocError> {
     }
 }
 
-/// `JSON`: the time to live that it asks for, if it is one, and what is kept of it.
+/// `JSON`: the time to live that it asks for, if it is one, and the description that is kept of it.
 pub fn put_asked(text: &mut String, alloc: Global, given: &str) -> Result<(), AllocError> {
     let tree = tree_of(alloc, given)?;
     match asked_ttl(&tree) {

@@ -1,5 +1,5 @@
-//! Whose act a turn of the devices is. Each ask that isn't a GET has a number of its own, and asks to write it to the
-//! lamp's status or to fade with it; so its acts are the turns with that number.
+//! The ask of each turn of the devices. Each ask that isn't a GET has a number of its own, and asks to write it to the
+//! lamp's status or to fade with it, so that its acts are the turns with that number.
 
 use crate::played::{Played, acted_with, copy_in, is_read, response_in};
 use coap_msg::{GET, Message, PUT};
@@ -9,7 +9,7 @@ use std::str;
 use thing_handler::{CallKind, Turn};
 use wot_json::Tree;
 
-/// What an ask asks for.
+/// The operation that an ask asks for.
 #[derive(Clone, Copy, PartialEq, Eq)]
 pub enum Wanted {
     /// To read the status, perhaps to observe it.
@@ -28,7 +28,7 @@ pub fn number_of(payload: &[u8]) -> i64 {
     }
 }
 
-/// What a request asks for.
+/// The operation that a request asks for.
 fn wanted_in(request: &Message<'_>) -> Wanted {
     match request.code {
         GET => Wanted::Read,
@@ -37,7 +37,7 @@ fn wanted_in(request: &Message<'_>) -> Wanted {
     }
 }
 
-/// What an ask asks for.
+/// The operation that an ask asks for.
 pub fn wanted_by(world: &World, made: &AskMade) -> Wanted {
     for sent in world.sent.iter() {
         if let Some(request) = copy_in(sent, made) {
@@ -57,7 +57,7 @@ pub fn response_to<'a>(world: &'a World, made: &AskMade) -> Option<&'a SentDatag
     None
 }
 
-/// How many responses there were to an ask: as many as copies of it came.
+/// The number of responses to an ask: as many as copies of it came.
 pub fn responses(world: &World, made: &AskMade) -> usize {
     let mut count: usize = 0;
     for sent in world.sent.iter() {
@@ -68,7 +68,7 @@ pub fn responses(world: &World, made: &AskMade) -> usize {
     count
 }
 
-/// How many of these turns write a number or fade with it.
+/// The number of these turns that write a number or fade with it.
 fn turns_with(turns: &[Turn], number: i64) -> usize {
     let mut count: usize = 0;
     for turn in turns {
@@ -79,7 +79,7 @@ fn turns_with(turns: &[Turn], number: i64) -> usize {
     count
 }
 
-/// How many acts were made for an ask that wants to act; of one that reads none is told apart.
+/// The number of acts that were made for an ask that wants to act; of one that reads none is told apart.
 pub fn acts_for(played: &Played<'_>, wanted: Wanted) -> usize {
     match wanted {
         Wanted::Read => 0,
@@ -100,7 +100,7 @@ pub fn invocation_with(fade: &[Turn], number: i64) -> Option<u32> {
     None
 }
 
-/// How many turns write or fade.
+/// The number of turns that write or fade.
 fn acting_turns(turns: &[Turn]) -> usize {
     let mut count: usize = 0;
     for turn in turns {
@@ -111,12 +111,12 @@ fn acting_turns(turns: &[Turn]) -> usize {
     count
 }
 
-/// How many acts there were in all.
+/// The number of acts in all.
 pub fn acts(played: &Played<'_>) -> usize {
     acting_turns(played.status).saturating_add(acting_turns(played.fade))
 }
 
-/// How often the status was read.
+/// The number of reads of the status.
 pub fn reads(played: &Played<'_>) -> usize {
     let mut count: usize = 0;
     for turn in played.status {
@@ -127,7 +127,7 @@ pub fn reads(played: &Played<'_>) -> usize {
     count
 }
 
-/// How many values were written by HTTP: each request came whole on a connection.
+/// The number of values that were written by HTTP: each request came whole on a connection.
 pub fn written_by_http(moves: &Moves) -> usize {
     let mut count: usize = 0;
     for next in moves.iter() {

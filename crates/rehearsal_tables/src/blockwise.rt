@@ -1,4 +1,4 @@
-//! Schedules of block-wise asks, a line each, and what is checked of their rows (`joined.rt`). They are written as those of
+//! Schedules of block-wise asks, a line each, and the checks of their rows (`joined.rt`). They are written as those of
 //! `schedules.rt`; `text PATH TEXT` gives the text of a path.
 
 use crate::joined::{Book, NONE, put_joined, put_tally};
@@ -9,7 +9,8 @@ use servient_rehearsal::Moves;
 use std::alloc::{AllocError, Global};
 use thing_handler::{Handler, Handlers, Rack, SHIPPED_SLOTS, shipped_in};
 
-/// Writes what is checked of moves with these devices.
+/// Writes the checks of moves with these devices. The rack is lent, since a function pays at each early exit for what
+/// it owns.
 fn put_played<R: Handlers>(
     text: &mut String,
     alloc: Global,
@@ -30,7 +31,7 @@ fn put_played<R: Handlers>(
     put_joined(text, alloc, &played, book)
 }
 
-/// Writes what is checked of moves.
+/// Writes the checks of moves.
 fn put_moves(
     text: &mut String,
     alloc: Global,
@@ -45,7 +46,7 @@ fn put_moves(
     put_played(text, alloc, &mut rack, moves, book)
 }
 
-/// Writes a schedule and what is checked of it.
+/// Writes a schedule and its checks.
 fn put_schedule(
     text: &mut String,
     alloc: Global,
@@ -59,7 +60,7 @@ fn put_schedule(
     text.push_str("\n")
 }
 
-/// Writes schedules with what is checked of each, and how many rows there were.
+/// Writes schedules with the checks of each, and the number of rows.
 pub fn put(text: &mut String, alloc: Global, lines: &str) -> Result<(), AllocError> {
     let mut book = Book { lines, tally: NONE };
     for line in lines.lines() {

@@ -1,4 +1,4 @@
-//! Cases: moves, and all that comes of them.
+//! Cases: moves, and their whole outcome.
 
 use crate::lamp::world_of;
 use crate::reading::push_move;
@@ -7,7 +7,8 @@ use servient_rehearsal::Moves;
 use std::alloc::{AllocError, Global};
 use thing_handler::{Handler, Handlers, Rack, SHIPPED_SLOTS, shipped_in};
 
-/// Writes what comes of moves with these devices.
+/// Writes the outcome of moves with these devices. The rack is lent, since a function pays at each early exit for what
+/// it owns.
 fn put_rehearsed<R: Handlers>(
     text: &mut String,
     alloc: Global,
@@ -19,7 +20,7 @@ fn put_rehearsed<R: Handlers>(
     put_turns(text, rack)
 }
 
-/// Writes what comes of moves.
+/// Writes the outcome of moves.
 fn put_moves(text: &mut String, alloc: Global, moves: &Moves) -> Result<(), AllocError> {
     let mut list: Vec<Box<dyn Handler>> = Vec::new(alloc);
     for slot in 0..SHIPPED_SLOTS {
@@ -29,7 +30,7 @@ fn put_moves(text: &mut String, alloc: Global, moves: &Moves) -> Result<(), Allo
     put_rehearsed(text, alloc, &mut rack, moves)
 }
 
-/// Writes a case and what comes of it.
+/// Writes a case and its outcome.
 fn put_case(text: &mut String, alloc: Global, lines: &str) -> Result<(), AllocError> {
     let mut moves = Vec::new(alloc);
     for line in lines.lines() {

@@ -1,13 +1,13 @@
-//! What is checked of a schedule, by the turns of the devices, the datagrams and what the client was told:
+//! The checks of a schedule, by the turns of the devices, the datagrams and the news of the client:
 //!
 //! - for each ask that writes or fades there is one turn with its number where the servient responded to it, and none
-//!   where it didn't; the status was read once for each other ask to which it responded; and no turn is of anybody else,
-//!   but one for each value that was written by HTTP;
+//!   where it didn't; the status was read once for each other ask to which it responded; and no turn is of anybody
+//!   else, but one for each value that was written by HTTP;
 //! - all responses to an ask are the same, byte for byte;
 //! - an ask ends once at most; one that ended with a response or a value was responded to, and a response is that which
 //!   the servient sent, and says what the act came to (no schedule fills the table of exchanges);
-//! - of the values that were taken for an ask none was written before one that was taken earlier, or before the one that
-//!   was read for the response to it.
+//! - of the values that were taken for an ask none was written before one that was taken earlier, or before the one
+//!   that was read for the response to it.
 
 use crate::asks::{
     Wanted, acts, acts_for, invocation_with, number_of, place_of, reads, response_to, wanted_by,
@@ -27,7 +27,7 @@ const CREATED: u8 = 65;
 /// The code 2.04.
 const CHANGED: u8 = 68;
 
-/// What a schedule says of which all holds.
+/// The line of a schedule of which all holds.
 const HOLDS: &str = "acts once, answered by the act, values in order";
 
 /// The id of the invocation of which this says that it runs.
@@ -38,7 +38,8 @@ fn running_id(payload: &[u8]) -> Option<u32> {
     digits.parse::<u32>().ok()
 }
 
-/// Whether a code and a payload are what an act of this kind comes to: the status, nothing, or the id of the invocation.
+/// Whether a code and a payload are the outcome of an act of this kind: the status, nothing, or the id of the
+/// invocation.
 fn is_outcome(played: &Played<'_>, wanted: Wanted, code: u8, payload: &[u8]) -> bool {
     match wanted {
         Wanted::Read => code == CONTENT && place_of(played.status, number_of(payload)).is_some(),
@@ -152,7 +153,7 @@ fn are_in_order(played: &Played<'_>, made: &AskMade, first: Option<usize>) -> bo
     true
 }
 
-/// What is wrong with the act of an ask, if something is.
+/// The fault of the act of an ask, if there is one.
 fn fault_of_act(played: &Played<'_>, made: &AskMade, wanted: Wanted) -> Option<&'static str> {
     let count = acts_for(played, wanted);
     match response_to(played.world, made) {
@@ -177,7 +178,7 @@ fn fault_of_act(played: &Played<'_>, made: &AskMade, wanted: Wanted) -> Option<&
     }
 }
 
-/// What is wrong with an ask, if something is.
+/// The fault of an ask, if there is one.
 fn fault_of(played: &Played<'_>, made: &AskMade) -> Option<&'static str> {
     if let Some(fault) = fault_of_act(played, made, wanted_by(played.world, made)) {
         return Some(fault);
@@ -191,7 +192,7 @@ fn fault_of(played: &Played<'_>, made: &AskMade) -> Option<&'static str> {
     None
 }
 
-/// How many asks that read were responded to, and how many that act.
+/// The number of asks that read and were responded to, and of those that act.
 fn responded(world: &World) -> (usize, usize) {
     let mut reading: usize = 0;
     let mut acting: usize = 0;
@@ -212,7 +213,7 @@ fn has_no_other_turns(played: &Played<'_>) -> bool {
     reads(played) == reading && acts(played) == acting.saturating_add(written_by_http(played.moves))
 }
 
-/// Writes what was checked: that all holds, or the first fault.
+/// Writes the verdict: that all holds, or the first fault.
 pub fn put_checked(text: &mut String, played: &Played<'_>) -> Result<(), AllocError> {
     for made in played.world.asks.iter() {
         if let Some(fault) = fault_of(played, made) {

@@ -1,10 +1,10 @@
-//! What is checked of the rows of a schedule, by the turns of the devices and the bytes alone. For a row that meets the
-//! premises (no other ask that could disturb it was made from 200,000 ms before it on) there is printed how many turns
-//! made what it says:
+//! The checks of the rows of a schedule, by the turns of the devices and the bytes alone. For a row that meets the
+//! premises (no other ask that could disturb it was made from 200,000 ms before it on) there is printed the number of
+//! turns that made its content:
 //!
 //! - of a row that writes: the turns that write the number in the joined payloads to the status, or fade with it;
-//! - of a row that reads the status of an invocation: the turns that queried it and whose answer is in the joined payloads,
-//!   or begins with them where the row has no last block;
+//! - of a row that reads the status of an invocation: the turns that queried it and whose answer is in the joined
+//!   payloads, or begins with them where the row has no last block;
 //! - of a row that reads another path no handler is called: whether the joined payloads are its text.
 //!
 //! And of each number that was asked for there is one turn at most.
@@ -30,7 +30,7 @@ fn number_in(alloc: Global, payload: &[u8]) -> Result<i64, AllocError> {
     Ok(number_of(digits.as_slice()))
 }
 
-/// How many of these turns write this number or fade with it.
+/// The number of these turns that write this number or fade with it.
 fn turns_with(turns: &[Turn], number: i64) -> usize {
     let mut count: usize = 0;
     for turn in turns {
@@ -41,12 +41,12 @@ fn turns_with(turns: &[Turn], number: i64) -> usize {
     count
 }
 
-/// How many turns write this number or fade with it.
+/// The number of turns that write this number or fade with it.
 fn acts_with(played: &Played<'_>, number: i64) -> usize {
     turns_with(played.status, number).saturating_add(turns_with(played.fade, number))
 }
 
-/// What the status of an invocation is after an answer to a query, as the servient says it.
+/// The status of an invocation after an answer to a query, as the servient says it.
 fn status_after(alloc: Global, id: u32, answer: &Answer) -> Result<Option<String>, AllocError> {
     let mut text = String::from_str(alloc, "{\"id\":")?;
     match answer {
@@ -60,7 +60,7 @@ fn status_after(alloc: Global, id: u32, answer: &Answer) -> Result<Option<String
     Ok(Some(text))
 }
 
-/// What the status of an invocation is after a turn, if that queried it.
+/// The status of an invocation after a turn, if that queried it.
 fn status_by(alloc: Global, turn: &Turn) -> Result<Option<String>, AllocError> {
     match &turn.what {
         CallKind::Query(id) => status_after(alloc, *id, &turn.answer),
@@ -80,7 +80,7 @@ fn is_of(row: &Row, text: &str) -> bool {
     }
 }
 
-/// How many turns queried what was read in a row.
+/// The number of turns that queried the status that was read in a row.
 fn queries_of(alloc: Global, played: &Played<'_>, row: &Row) -> Result<usize, AllocError> {
     let mut count: usize = 0;
     for turn in played.fade {
@@ -114,7 +114,8 @@ fn text_of<'a>(lines: &'a str, path: &[u8]) -> Option<&'a str> {
     None
 }
 
-/// Writes what is checked of a row that meets the premises.
+/// Writes the check of a row that meets the premises. The text is lent, since a function pays at each early exit for
+/// what it owns.
 fn put_found(
     text: &mut String,
     alloc: Global,
@@ -133,7 +134,7 @@ fn put_found(
     }
 }
 
-/// Writes a row and what is checked of it.
+/// Writes a row and its check.
 fn put_row(
     text: &mut String,
     alloc: Global,
@@ -169,7 +170,7 @@ fn are_single(played: &Played<'_>, turns: &[Turn]) -> bool {
     true
 }
 
-/// How many rows there were that met the premises and ended with the last block, and in how many schedules.
+/// The number of rows that met the premises and ended with the last block, and of their schedules.
 #[derive(Clone, Copy)]
 pub struct Tally {
     reads: usize,
@@ -194,7 +195,7 @@ pub const NONE: Tally = Tally {
     acts: 0,
 };
 
-/// How many of these rows met the premises, went this way and ended with the last block.
+/// The number of these rows that met the premises, went this way and ended with the last block.
 fn ended(rows: &[Row], way: Way) -> usize {
     let mut count: usize = 0;
     for row in rows {
@@ -219,14 +220,14 @@ fn add(tally: &mut Tally, played: &Played<'_>, steps: &[Step<'_>], rows: &[Row])
     tally.acts = tally.acts.saturating_add(acts(played));
 }
 
-/// A file of schedules, which gives the texts of paths, and how many rows there were in it so far.
+/// A file of schedules, which gives the texts of paths, and the number of rows in it so far.
 #[derive(Drop)]
 pub struct Book<'a> {
     pub lines: &'a str,
     pub tally: Tally,
 }
 
-/// Writes what was checked of the rows of a schedule.
+/// Writes the checks of the rows of a schedule.
 pub fn put_joined(
     text: &mut String,
     alloc: Global,
@@ -251,7 +252,7 @@ pub fn put_joined(
     Ok(())
 }
 
-/// Writes how many rows and schedules there were.
+/// Writes the numbers of rows and schedules.
 pub fn put_tally(text: &mut String, tally: &Tally) -> Result<(), AllocError> {
     writeln!(
         text,

@@ -1,5 +1,5 @@
-//! What came about in schedules, of what there is to be in them. Each is told by what was sent for it, or by what the
-//! client was told, and not by the moves, since a move may be skipped.
+//! The kinds of events that came about in schedules, of those that there are to be in them. Each is told by the
+//! datagrams that were sent for it, or by the news of the client, and not by the moves, since a move may be skipped.
 
 use crate::asks::{number_of, response_to, responses};
 use crate::played::{
@@ -10,16 +10,17 @@ use servient_rehearsal::{AskMade, End, Move, Moves, SentDatagram, World};
 use std::alloc::AllocError;
 use thing_handler::Turn;
 
-/// For how long a datagram may be under way, in milliseconds.
+/// The milliseconds for which a datagram may be under way.
 const LATENCY: u64 = 100_000;
 
-/// After how long a notification counts as newer whatever its number (RFC 7641, section 3.4), in milliseconds.
+/// The milliseconds after which a notification counts as newer whatever its number (RFC 7641, section 3.4).
 const NEWER_AFTER: u64 = 128_000;
 
-/// How often a message is sent that nothing acknowledges: once, and four times more (RFC 7252, section 4.8).
+/// The number of times that a message is sent that nothing acknowledges: once, and four times more (RFC 7252, section
+/// 4.8).
 const MOST_TIMES: usize = 5;
 
-/// What came about.
+/// The kinds that came about.
 #[derive(Clone, Copy)]
 pub struct Kinds {
     losses: bool,
@@ -52,7 +53,7 @@ pub const NOTHING: Kinds = Kinds {
     others: false,
 };
 
-/// How often an ask was sent.
+/// The number of copies of an ask.
 fn copies(world: &World, made: &AskMade) -> usize {
     let mut count: usize = 0;
     for sent in world.sent.iter() {
@@ -94,7 +95,7 @@ fn did_register(world: &World, made: &AskMade) -> bool {
     }
 }
 
-/// What the asks say.
+/// Notes the kinds that the asks show.
 fn note_asks(kinds: &mut Kinds, world: &World) {
     let mut has_registered = false;
     for made in world.asks.iter() {
@@ -109,7 +110,7 @@ fn note_asks(kinds: &mut Kinds, world: &World) {
     }
 }
 
-/// What the client was told: values for two asks, and that an ask ended by time.
+/// Notes the kinds of news of the client: values for two asks, and the end of an ask by time.
 fn note_news(kinds: &mut Kinds, world: &World) {
     if let Some(first) = world.taken.first() {
         for taken in world.taken.iter() {
@@ -123,7 +124,8 @@ fn note_news(kinds: &mut Kinds, world: &World) {
     }
 }
 
-/// What the client replied to notifications: a Reset, or to an older one after a newer.
+/// Notes the kinds of replies of the client to notifications: a Reset, or an Acknowledgement of an older one after a
+/// newer.
 fn note_replies(kinds: &mut Kinds, world: &World) {
     let mut greatest: u16 = 0;
     for sent in world.sent.iter() {
@@ -135,7 +137,7 @@ fn note_replies(kinds: &mut Kinds, world: &World) {
     }
 }
 
-/// When the first notification with this token was sent.
+/// The moment at which the first notification with this token was sent.
 fn first_notice(world: &World, token: &[u8]) -> Option<u64> {
     for sent in world.sent.iter() {
         if let Some(message) = notice_in(sent) {
@@ -158,7 +160,7 @@ fn is_late_notice(world: &World, sent: &SentDatagram) -> bool {
     }
 }
 
-/// How often a notification was sent.
+/// The number of times that a notification was sent.
 fn times_sent(world: &World, wanted: &SentDatagram) -> usize {
     let mut times: usize = 0;
     for sent in world.sent.iter() {
@@ -192,8 +194,8 @@ fn is_notified(world: &World, value: i64) -> bool {
     false
 }
 
-/// What the notifications say: two of one registration that are far apart, and one that was sent five times, where the
-/// last value that was written was in none.
+/// Notes the kinds that the notifications show: two of one registration that are far apart, and one that was sent five
+/// times, where the last value that was written was in none.
 fn note_notices(kinds: &mut Kinds, played: &Played<'_>) {
     let is_last_said = is_notified(played.world, last_value(played.status));
     for sent in played.world.sent.iter() {
@@ -210,7 +212,7 @@ fn is_too_late(world: &World, index: u32, now: u64) -> bool {
     }
 }
 
-/// What the moves say by themselves: that something else came, and that a datagram was too late.
+/// Notes the kinds that the moves show by themselves: another event, and a datagram that was too late.
 fn note_moves(kinds: &mut Kinds, world: &World, moves: &Moves) {
     let mut now: u64 = 0;
     for next in moves.iter() {
@@ -223,7 +225,7 @@ fn note_moves(kinds: &mut Kinds, world: &World, moves: &Moves) {
     }
 }
 
-/// Notes what came about in a schedule.
+/// Notes the kinds that came about in a schedule.
 pub fn note(kinds: &mut Kinds, played: &Played<'_>) {
     note_asks(kinds, played.world);
     note_news(kinds, played.world);
@@ -232,7 +234,7 @@ pub fn note(kinds: &mut Kinds, played: &Played<'_>) {
     note_moves(kinds, played.world, played.moves);
 }
 
-/// Writes whether something came about.
+/// Writes whether a kind came about.
 fn put_kind(text: &mut String, what: &str, came: bool) -> Result<(), AllocError> {
     text.push_str(what)?;
     text.push_str(if came {
@@ -242,7 +244,7 @@ fn put_kind(text: &mut String, what: &str, came: bool) -> Result<(), AllocError>
     })
 }
 
-/// Writes what came about of what the network does.
+/// Writes the kinds of the network's work that came about.
 fn put_network(text: &mut String, kinds: &Kinds) -> Result<(), AllocError> {
     put_kind(text, "an ask was lost", kinds.losses)?;
     put_kind(text, "an ask came twice", kinds.repeats)?;
@@ -255,7 +257,7 @@ fn put_network(text: &mut String, kinds: &Kinds) -> Result<(), AllocError> {
     put_kind(text, "a datagram was too late", kinds.too_late)
 }
 
-/// Writes what came about.
+/// Writes the kinds that came about.
 pub fn put(text: &mut String, kinds: &Kinds) -> Result<(), AllocError> {
     put_network(text, kinds)?;
     put_kind(text, "two asks registered", kinds.registrations)?;

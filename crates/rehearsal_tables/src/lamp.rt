@@ -63,7 +63,7 @@ pub fn servient_on<R: Handlers>(alloc: Global, rack: &R) -> Result<Servient, All
     }
 }
 
-/// What comes of moves with a servient that is new, and a new client, whose first message has the id 0.
+/// The outcome of moves with a servient that is new, and a new client, whose first message has the id 0.
 #[tactic(auto, using(crate::proofs::Beginnings::new_of))]
 fn rehearsed<R: Handlers>(
     alloc: Global,
@@ -79,7 +79,7 @@ fn rehearsed<R: Handlers>(
     rehearse(alloc, servient, &mut client, rack, moves)
 }
 
-/// What comes of moves with both ends new.
+/// The outcome of moves with both ends new.
 ///
 /// # Errors
 ///

@@ -1,12 +1,12 @@
-//! What was played, as it is seen from outside: the moves, the datagrams that both ends sent, what the client was told,
-//! and the turns of the lamp's devices. Nothing here asks how `rehearse` came to that.
+//! A rehearsal that was played, as it is seen from outside: the moves, the datagrams of both ends, the news of the
+//! client, and the turns of the lamp's devices. Nothing here asks how `rehearse` came to that.
 
 use coap_msg::{Message, Type4, decode};
 use servient_rehearsal::{AskMade, Moves, SentDatagram, World};
 use thing_handler::{CallKind, Turn};
 use wot_json::Tree;
 
-/// What was played with the built-in Thing.
+/// A rehearsal that was played with the built-in Thing.
 #[derive(Clone, Copy)]
 pub struct Played<'a> {
     pub moves: &'a Moves,
@@ -40,7 +40,8 @@ pub fn message_in(sent: &SentDatagram, from: u128, to: u128, kind: Type4) -> Opt
     }
 }
 
-/// What a datagram asks, if it is the first of an ask or one of its copies: all that a client sends Confirmable is asked.
+/// The request in a datagram, if it is the first of an ask or one of its copies, since a client asks by each message
+/// that it sends Confirmable.
 pub fn copy_in<'a>(sent: &'a SentDatagram, made: &AskMade) -> Option<Message<'a>> {
     match message_in(sent, CLIENT, SERVIENT, Type4::Con) {
         Some(message) => {
@@ -54,7 +55,7 @@ pub fn copy_in<'a>(sent: &'a SentDatagram, made: &AskMade) -> Option<Message<'a>
     }
 }
 
-/// What a datagram answers, if it is a response to an ask: it is an Acknowledgement with its message ID.
+/// The answer in a datagram, if it is a response to an ask: it is an Acknowledgement with its message ID.
 pub fn response_in<'a>(sent: &'a SentDatagram, made: &AskMade) -> Option<Message<'a>> {
     match message_in(sent, SERVIENT, CLIENT, Type4::Ack) {
         Some(message) => {
@@ -68,7 +69,7 @@ pub fn response_in<'a>(sent: &'a SentDatagram, made: &AskMade) -> Option<Message
     }
 }
 
-/// What a datagram says to an observer, if it is a notification.
+/// The message to an observer in a datagram, if it is a notification.
 pub fn notice_in(sent: &SentDatagram) -> Option<Message<'_>> {
     message_in(sent, SERVIENT, CLIENT, Type4::Con)
 }

@@ -18,7 +18,7 @@ fn code_of(method: &str) -> u8 {
     }
 }
 
-/// The segments of a path.
+/// A path.
 fn path_of(alloc: Global, text: &str) -> Result<Segments, AllocError> {
     let mut path = Segments::new(alloc);
     for segment in text.split('/').skip(1) {
@@ -29,7 +29,7 @@ fn path_of(alloc: Global, text: &str) -> Result<Segments, AllocError> {
     Ok(path)
 }
 
-/// The number of the option of this name at the beginning of these words, if it is there, and what comes after it.
+/// The number of the option of this name at the beginning of these words, if it is there, and the words after it.
 fn option_of<'a>(name: &str, words: &'a str) -> (Option<&'a str>, &'a str) {
     match words.strip_prefix(name) {
         Some(rest) => {
@@ -64,7 +64,7 @@ fn block_of(digits: Option<&str>) -> Option<Block> {
     })
 }
 
-/// What is asked in these words.
+/// The ask of these words.
 fn ask_of(alloc: Global, observe: Option<bool>, words: &str) -> Result<Move, AllocError> {
     let mut fields = words.splitn(3, ' ');
     let code = code_of(fields.next().unwrap_or(""));
@@ -117,7 +117,7 @@ fn datagram_from(alloc: Global, words: &str) -> Result<Move, AllocError> {
     ))
 }
 
-/// What comes without bytes.
+/// An event that comes without bytes.
 fn besides(alloc: Global, what: What) -> Move {
     Move::Other(what, Bytes::new(alloc))
 }

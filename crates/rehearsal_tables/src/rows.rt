@@ -1,12 +1,12 @@
-//! Rows of block-wise asks: GETs without Observe of one path for the blocks 0, 1 and so on of one size, each answered with
-//! 2.05, each but the last with M; or PUTs or POSTs of one code and path with such blocks, each but the last answered with
-//! 2.31, and the last with another code of class 2.
+//! Rows of block-wise asks: GETs without Observe of one path for the blocks 0, 1 and so on of one size, each answered
+//! with 2.05, each but the last with M; or PUTs or POSTs of one code and path with such blocks, each but the last
+//! answered with 2.31, and the last with another code of class 2.
 
 use crate::steps::{Answer, Step, Way};
 use coap_msg::{Block, CONTENT, CONTINUE};
 use std::alloc::{AllocError, Global};
 
-/// For how long before a row no other ask may be made that could disturb it, in milliseconds.
+/// The milliseconds before a row in which no other ask may be made that could disturb it.
 const APART: u64 = 200_000;
 
 /// A row.
@@ -15,7 +15,7 @@ pub struct Row {
     pub way: Way,
     /// The path, with a slash before each segment.
     pub path: Vec<u8>,
-    /// How many asks it has.
+    /// The number of asks that it has.
     pub count: usize,
     /// The payloads in their order: of the answers, or of the asks.
     pub joined: Vec<u8>,
@@ -77,7 +77,7 @@ fn is_apart(steps: &[Step<'_>], way: Way, first: &Step<'_>, place: usize) -> boo
     true
 }
 
-/// What an ask adds to the payloads of a row.
+/// The part that an ask adds to the payloads of a row.
 fn part_of<'a>(way: Way, step: &Step<'a>, answer: &Answer<'a>) -> &'a [u8] {
     match way {
         Way::Read => answer.payload,

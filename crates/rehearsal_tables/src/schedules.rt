@@ -1,5 +1,5 @@
-//! Schedules, a line each, and what is checked of them. In a schedule `; ` stands between the moves, and besides those of
-//! a case there are
+//! Schedules, a line each, and the checks of them. In a schedule `; ` stands between the moves, and besides those of a
+//! case there are
 //!
 //! - `write N`, `fade N`: the client asks to write N to the lamp's status, or to fade with it;
 //! - `observe`, `cancel`: the client asks for the status with Observe 0 or 1;
@@ -82,14 +82,15 @@ pub fn moves_of(alloc: Global, line: &str) -> Result<Moves, AllocError> {
     Ok(moves)
 }
 
-/// What came about in schedules, and how much was done.
+/// The kinds of events that came about in schedules, and the totals.
 #[derive(Drop)]
 pub struct Tally {
     kinds: Kinds,
     totals: Totals,
 }
 
-/// Writes what is checked of moves with these devices.
+/// Writes the verdict on moves with these devices. The rack is lent, since a function pays at each early exit for what
+/// it owns.
 fn put_played<R: Handlers>(
     text: &mut String,
     alloc: Global,
@@ -112,7 +113,7 @@ fn put_played<R: Handlers>(
     put_checked(text, &played)
 }
 
-/// Writes what is checked of moves.
+/// Writes the verdict on moves.
 fn put_moves(
     text: &mut String,
     alloc: Global,
@@ -127,7 +128,7 @@ fn put_moves(
     put_played(text, alloc, &mut rack, moves, tally)
 }
 
-/// Writes a schedule and what is checked of it.
+/// Writes a schedule and the verdict on it.
 fn put_schedule(
     text: &mut String,
     alloc: Global,
@@ -141,7 +142,7 @@ fn put_schedule(
     text.push_str("\n")
 }
 
-/// Writes schedules with what is checked of each, what came about in them, and how much was done.
+/// Writes schedules with the verdict on each, the kinds of events that came about in them, and the totals.
 pub fn put(text: &mut String, alloc: Global, lines: &str) -> Result<(), AllocError> {
     let mut tally = Tally {
         kinds: NOTHING,

@@ -1,6 +1,6 @@
-//! Runs in sections: ticks come, of which each polls the lamp's one event, within bounds on events and turns. A row has how
-//! many ticks come and both bounds, as `ticks 9000 events 10000 turns 100000`, and after ` => ` how the run ended, how many
-//! turns the handlers keep then, and the number of the last.
+//! Runs in sections: ticks come, of which each polls the lamp's one event, within bounds on events and turns. A row has
+//! the number of ticks and both bounds, as `ticks 9000 events 10000 turns 100000`, and after ` => ` the end of the run,
+//! the number of turns that the handlers keep then, and the number of the last.
 
 ghost use Rattle.thing_site.specs.Fits.{Fits};
 
@@ -13,7 +13,7 @@ use std::fmt::Write;
 use thing_handler::{Handler, Handlers, Rack, SHIPPED_SLOTS, shipped_in};
 use wot_json::Bytes;
 
-/// A row: how many ticks come, and the bounds of the run.
+/// A row: the number of ticks that come, and the bounds of the run.
 #[derive(Clone, Copy)]
 struct Row {
     ticks: u16,
@@ -50,7 +50,7 @@ fn ticks_of(alloc: Global, count: u16) -> Result<Events, AllocError> {
     Ok(events)
 }
 
-/// How serving ticks within these bounds ends.
+/// The end of serving ticks within these bounds.
 fn served<R: Handlers>(
     alloc: Global,
     servient: &mut Servient,
@@ -63,7 +63,7 @@ fn served<R: Handlers>(
     Ok(serve_in_sections(servient, &mut net, rack, row.bounds))
 }
 
-/// Writes how many turns the handlers keep, and the number of the last, or 0 where they keep none.
+/// Writes the number of turns that the handlers keep, and the number of the last, or 0 where they keep none.
 fn put_kept<R: Handlers>(text: &mut String, rack: &R) -> Result<(), AllocError> {
     let mut count: usize = 0;
     let mut last: u64 = 0;
@@ -77,7 +77,8 @@ fn put_kept<R: Handlers>(text: &mut String, rack: &R) -> Result<(), AllocError> 
     writeln!(text, "{count} turns are kept, the last is {last}")
 }
 
-/// Writes what comes of a row with these devices.
+/// Writes the outcome of a row with these devices. The rack is lent, since a function pays at each early exit for what
+/// it owns.
 fn put_run<R: Handlers>(
     text: &mut String,
     alloc: Global,
@@ -90,7 +91,7 @@ fn put_run<R: Handlers>(
     put_kept(text, rack)
 }
 
-/// Writes a row and what comes of it.
+/// Writes a row and its outcome.
 fn put_row(text: &mut String, alloc: Global, given: &str) -> Result<(), AllocError> {
     write!(text, "{given} => ")?;
     let mut list: Vec<Box<dyn Handler>> = Vec::new(alloc);
@@ -101,7 +102,7 @@ fn put_row(text: &mut String, alloc: Global, given: &str) -> Result<(), AllocErr
     put_run(text, alloc, &mut rack, row_of(given))
 }
 
-/// Writes rows, each with what comes of it, and the lines that only say something.
+/// Writes rows, each with its outcome, and the lines that only say something.
 ///
 /// # Errors
 ///

@@ -1,4 +1,4 @@
-//! What came of moves, in words.
+//! The outcome of moves, in words.
 //!
 //! ```text
 //! sent 0 at 0 from 1:49152 to 2:5683: CON GET 0 0000000000000000 /lamp/properties/status
@@ -67,7 +67,7 @@ fn put_end(text: &mut String, ended: &AskEnd) -> Result<(), AllocError> {
     text.push_str("\n")
 }
 
-/// Writes all that came of moves but what the devices did.
+/// Writes the whole outcome of moves but the turns of the devices.
 pub fn put_world(text: &mut String, world: &World) -> Result<(), AllocError> {
     for (index, sent) in world.sent.iter().enumerate() {
         put_sent(text, index, sent)?;
@@ -90,7 +90,7 @@ pub fn put_world(text: &mut String, world: &World) -> Result<(), AllocError> {
     writeln!(text, "now {}", world.moment)
 }
 
-/// Writes how often a device was called.
+/// Writes the number of calls of devices.
 pub fn put_turns<R: Handlers>(text: &mut String, rack: &R) -> Result<(), AllocError> {
     let mut count: usize = 0;
     for slot in 0..rack.len() {

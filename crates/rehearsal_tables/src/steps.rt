@@ -1,12 +1,12 @@
-//! What asks were for, of what counts in rows of block-wise asks: as their first datagrams say it, and as the client was told
-//! that they ended.
+//! The steps of asks that count in rows of block-wise asks: as their first datagrams say them, and as the client was
+//! told that they ended.
 
 use crate::played::copy_in;
 use coap_msg::{BLOCK1, BLOCK2, Block, GET, Message, OBSERVE, POST, PUT, URI_PATH, read_block};
 use servient_rehearsal::{AskMade, End, World};
 use std::alloc::{AllocError, Global};
 
-/// Which way a body travels in blocks.
+/// The way in which a body travels in blocks.
 #[derive(Clone, Copy, PartialEq, Eq)]
 pub enum Way {
     Read,
@@ -30,7 +30,7 @@ pub struct Step<'a> {
     /// The block that it asks for or brings, if it does.
     pub block: Option<(Way, Block)>,
     pub payload: &'a [u8],
-    /// When it was sent first, in milliseconds.
+    /// The moment at which it was sent first, in milliseconds.
     pub first: u64,
     pub answer: Option<Answer<'a>>,
 }
@@ -55,7 +55,8 @@ fn has_option(request: &Message<'_>, wanted: u16) -> bool {
     false
 }
 
-/// The block that a request is about, of a GET without Observe that which it wants, of a PUT or POST that which it brings.
+/// The block that a request is about, of a GET without Observe that which it wants, of a PUT or POST that which it
+/// brings.
 fn block_of(request: &Message<'_>) -> Option<(Way, Block)> {
     match request.code {
         GET if !has_option(request, OBSERVE) => {
@@ -82,7 +83,7 @@ fn path_of(alloc: Global, request: &Message<'_>) -> Result<Vec<u8>, AllocError> 
     Ok(path)
 }
 
-/// How an ask was answered, if it was.
+/// The answer to an ask, if there was one.
 fn answer_to<'a>(world: &'a World, made: &AskMade) -> Option<Answer<'a>> {
     for ended in world.ends.iter() {
         if ended.ask == made.ask {
@@ -98,7 +99,7 @@ fn answer_to<'a>(world: &'a World, made: &AskMade) -> Option<Answer<'a>> {
     None
 }
 
-/// What the first datagram of an ask asks.
+/// The request in the first datagram of an ask.
 fn request_of<'a>(world: &'a World, made: &AskMade) -> Option<Message<'a>> {
     for sent in world.sent.iter() {
         if let Some(request) = copy_in(sent, made) {

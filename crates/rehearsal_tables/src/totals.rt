@@ -1,4 +1,4 @@
-//! How much was done in schedules.
+//! The totals of schedules.
 
 use crate::asks::{acts, reads};
 use crate::played::Played;
@@ -6,7 +6,7 @@ use servient_rehearsal::{End, World};
 use std::alloc::AllocError;
 use std::fmt::Write;
 
-/// How many there were of each.
+/// The number of each.
 #[derive(Clone, Copy)]
 pub struct Totals {
     datagrams: usize,
@@ -43,7 +43,7 @@ fn add_ends(totals: &mut Totals, world: &World) {
     }
 }
 
-/// Adds what was done in a schedule.
+/// Adds the numbers of a schedule.
 pub fn add(totals: &mut Totals, played: &Played<'_>) {
     let world = played.world;
     totals.datagrams = totals.datagrams.saturating_add(world.sent.len());
@@ -54,7 +54,7 @@ pub fn add(totals: &mut Totals, played: &Played<'_>) {
     add_ends(totals, world);
 }
 
-/// Writes how much was done.
+/// Writes the totals.
 pub fn put(text: &mut String, totals: &Totals) -> Result<(), AllocError> {
     write!(
         text,

@@ -1,10 +1,10 @@
 //! A stored run over sockets. The program starts itself as a child that serves a plan, writes and reads a property of
-//! the shipped rack over TCP and UDP, and prints what came, and how the child ended once no traffic came for five
-//! seconds. Meanwhile a child asks it over CoAP which Things it has, and further children consume the one: one writes the
-//! property over CoAP, and two read it, over CoAP and over HTTP; three write a text of 1,000 bytes each, and one reads all
-//! properties, which come in blocks. Then a child that may open no more than 24 files is spoken to beside 30 connections
-//! that do nothing.
-//! Last a child checks a Thing Description without a `title`, which ends with a status that isn't 0.
+//! the shipped rack over TCP and UDP, and prints the replies, and the end of the child once no traffic came for five
+//! seconds. Meanwhile a child asks it over CoAP for its Things, and further children consume the one: one writes the
+//! property over CoAP, and two read it, over CoAP and over HTTP; three write a text of 1,000 bytes each, and one reads
+//! all properties, which come in blocks. Then a child that may open no more than 24 files is spoken to beside 30
+//! connections that do nothing. Last a child checks a Thing Description without a `title`, which ends with a status
+//! that isn't 0.
 //!
 //! With words of its own it is the servient; without any it is the run.
 #![tactic(auto)]
@@ -16,28 +16,28 @@ use std::thread::sleep;
 use std::time::Duration;
 use std::{env, fs, io, str};
 
-/// How often a connection is tried, and how many milliseconds lie between the tries: the child may not listen yet.
+/// The number of tries of a connection, and the milliseconds between them, since the child may not listen yet.
 const TRIES: u32 = 100;
 
 const PAUSE: u64 = 100;
 
-/// How often the child is started: a port that was free may be taken meanwhile.
+/// The number of times that the child is started, since a port that was free may be taken meanwhile.
 const STARTS: u32 = 5;
 
-/// How many connections are opened to a child that may have no more than 24 files, and for how many milliseconds they
-/// are left, so that its listener fails again at a tick.
+/// The number of connections that are opened to a child that may have no more than 24 files, and the milliseconds for
+/// which they are left, so that its listener fails again at a tick.
 const CROWD: u32 = 30;
 
 const CROWDED: u64 = 1500;
 
-/// How long an answer is awaited, in seconds.
+/// The seconds for which an answer is awaited.
 const PATIENCE: u64 = 10;
 
 /// The model of the Thing that is served.
 const MODEL: &str =
     "{\"@context\":\"https://www.w3.org/2022/wot/td/v1.1\",\"@type\":\"tm:ThingModel\",\"title\":\"Lamp\",\"properties\":{\"level\":{\"type\":\"integer\"},\"a\":{\"type\":\"string\"},\"b\":{\"type\":\"string\"},\"c\":{\"type\":\"string\"}}}";
 
-/// How many bytes each of the texts has.
+/// The number of bytes of each of the texts.
 const TEXT_BYTES: u32 = 1000;
 
 /// The whole requests by HTTP (RFC 9112): the second closes its connection.
@@ -90,7 +90,7 @@ fn serve_many(rt: &HostRuntime) -> io::Result<()> {
     Err(io::Error::from(io::ErrorKind::AddrInUse))
 }
 
-/// How the run ends.
+/// The end of the run.
 fn ended(rt: &HostRuntime, outcome: io::Result<()>) -> ExitCode {
     match outcome {
         Ok(()) => ExitCode::SUCCESS,
@@ -101,7 +101,8 @@ fn ended(rt: &HostRuntime, outcome: io::Result<()>) -> ExitCode {
     }
 }
 
-/// Starts the child on two ports that are free, speaks to it, and prints what came; false: a port was taken meanwhile.
+/// Starts the child on two ports that are free, speaks to it, and prints the replies; false: a port was taken
+/// meanwhile.
 fn speak(rt: &HostRuntime) -> io::Result<bool> {
     let http = free_tcp_port(rt)?;
     let coap = free_udp_port(rt)?;
@@ -155,7 +156,7 @@ fn plan(rt: &HostRuntime, http: u16, coap: u16) -> io::Result<String> {
     )?)
 }
 
-/// Where the program is.
+/// The path of the program.
 fn own_path(rt: &HostRuntime) -> io::Result<String> {
     match env::args(rt)?.next() {
         Some(path) => Ok(path),
@@ -236,8 +237,8 @@ fn description(rt: &HostRuntime, http: u16, coap: u16) -> io::Result<String> {
     )?)
 }
 
-/// Has the server at this port asked which Things it has, and prints whether it names the lamp and no other: the port isn't
-/// the same at each run.
+/// Has the server at this port asked for its Things, and prints whether it names the lamp and no other, since the port
+/// isn't the same at each run.
 fn discover(rt: &HostRuntime, coap: u16) -> io::Result<()> {
     let server = format!(in rt.alloc(); "127.0.0.1:{coap}")?;
     let output = servient(rt, &["discover", server.as_str()])?.output(rt)?;
@@ -247,7 +248,7 @@ fn discover(rt: &HostRuntime, coap: u16) -> io::Result<()> {
     println!(rt; "status {status}, the lamp and no other: {is_lamp}")
 }
 
-/// Has the Thing at these ports consumed, and prints what comes of that.
+/// Has the Thing at these ports consumed, and prints the outcomes.
 fn consume(rt: &HostRuntime, http: u16, coap: u16) -> io::Result<()> {
     fs::write(rt, "level.td.json", description(rt, http, coap)?.as_str())?;
     fs::write(rt, "seven.json", "7")?;
@@ -278,7 +279,7 @@ fn text(rt: &HostRuntime) -> io::Result<String> {
     Ok(text)
 }
 
-/// Starts the program as a consumer that does an operation with these options, and prints how it ends.
+/// Starts the program as a consumer that does an operation with these options, and prints its end.
 fn consumer(rt: &HostRuntime, operation: &str, name: &str, options: &[&str]) -> io::Result<()> {
     let mut command = servient(rt, &["consume", "level.td.json", operation, name])?;
     for word in options {
@@ -288,7 +289,7 @@ fn consumer(rt: &HostRuntime, operation: &str, name: &str, options: &[&str]) -> 
     print_end(rt, &output)
 }
 
-/// Has a description without a title checked, and prints how that ends.
+/// Has a description without a title checked, and prints the end.
 fn refuse(rt: &HostRuntime) -> io::Result<()> {
     let output = servient(rt, &["check", "untitled.td.json"])?.output(rt)?;
     print_end(rt, &output)
@@ -336,7 +337,7 @@ fn print(rt: &HostRuntime, written: &[u8], read: &[u8], answer: &[u8]) -> io::Re
     println!(rt; "")
 }
 
-/// Prints how the child ended.
+/// Prints the end of the child.
 fn print_end(rt: &HostRuntime, output: &Output) -> io::Result<()> {
     let status = output.status.code().unwrap_or(-1);
     let size = output.stdout.len() + output.stderr.len();

@@ -47,7 +47,7 @@ no_sign_or_leading_zero n fits test =
     let alone = no_leading_zero n fits in
     grind (arith, nat_tests, digit, alone)
 
--- what `parse` reads of a text with neither is the number that the text writes
+-- `parse` reads of a text with neither the number that the text writes
 pub decimal_from_parse : {E : Type 0} (text : List ℕ) (r : Result ℕ E) (n : ℕ) → ParsesUnsigned 64 10 text r
     → has_sign_or_leading_zero text ≡ false → r ≡ Ok n → text ≡ decimal n
 decimal_from_parse {E} text r n parses test is =

@@ -44,7 +44,7 @@ pub refines_each_none : {C S X W A : Type 0} (StandsFor : C → S → Type 0) (S
     → Refines StandsFor Shows (Each Move []) c c w w
 refines_each_none StandsFor Shows order Move c w = refines_stays StandsFor Shows order c w
 
--- what was made for some things, and then for one more
+-- the moves for some things, and then for one more
 pub each_more : {S X A : Type 0} (Move : A → S → List X → S → Type 0) (xs : List A) (y : A) (s m t : S) (a b : List X)
     → Each Move xs s a m → Move y m b t → Each Move (xs ++ y ∷ []) s (a ++ b) t
 each_more {S} {X} Move [] y s m t a b each one = record {

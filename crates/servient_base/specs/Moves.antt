@@ -41,7 +41,7 @@ pub data Until {S X : Type 0} (P : S → List X → S → Type 0) (IsDone : S �
 
 -- ---- code that makes moves
 
--- How an outside shows traces from one time to another: an empty one where nothing happened, and one after another.
+-- An outside shows traces from one time to another: an empty one where nothing happened, and one after another.
 pub record ShowsInOrder {W X : Type 0} (Shows : W → W → List X → Type 0) : Type 0 where
   pub none : (w : W) → Shows w w []
   pub more : (w v u : W) (a b : List X) → Shows w v a → Shows v u b → Shows w u (a ++ b)
@@ -52,7 +52,7 @@ pub record Makes {S X W : Type 0} (Shows : W → W → List X → Type 0) (P : S
   pub move : P s seen t
   pub shows : Shows w v seen
 
--- What the code keeps stands for states of the machine. Whatever state it stood for before, it stands afterwards for
--- one to which the move leads from there, and the outside shows that move.
+-- The state of the code stands for states of the machine. Whatever state it stood for before, it stands afterwards
+-- for one to which the move leads from there, and the outside shows that move.
 abbrev pub Refines : {C S X W : Type 0} → (C → S → Type 0) → (W → W → List X → Type 0) → (S → List X → S → Type 0) → C → C → W → W → Type 0
 Refines {C} {S} StandsFor Shows P c d w v = (s : S) → StandsFor c s → (t : S) × StandsFor d t × Makes Shows P s t w v

@@ -1,8 +1,8 @@
 -- Writing at a place of a slice.
 use Rattle.std.specs.Prelude.{◌≡◌, ◌≤◌, ◌<◌, ◌+◌, ℕ, List, ◌++◌, length, take, drop, Option, Some, None}
 
--- A text was written at a place, and end is the place after it. What is before the place and after the end is as it
--- was.
+-- A text was written at a place, and end is the place after it. The bytes before the place and after the end are as
+-- they were.
 pub record Puts (text : List ℕ) (at end : ℕ) (before now : List ℕ) : Type 0 where
   pub end_is : end ≡ at + length text
   pub within : end ≤ length now

@@ -35,6 +35,7 @@ pub fn put_encoded(out: &mut [u8], at: usize, bytes: &[u8]) -> Option<usize>
 {
     let mut end = at;
     for byte in bytes {
+        // A match and not `?`, since that gives the proof of the loop facts on `ControlFlow` alone.
         match put_encoded_byte(out, end, *byte) {
             Some(next) => end = next,
             None => return None,

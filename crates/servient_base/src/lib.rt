@@ -2,10 +2,10 @@
 //!
 //! Being out of memory has one name, `NoMemory`. A count of faults that rose is `Rose` in `specs/Count.antt`.
 //! `put_bytes`, and `put_piece` where there may be no room, are how every writer of this repository fills a caller's
-//! slice: they take no memory and change nothing but the bytes that they write. `put_encoded` and `push_encoded` are
-//! how a segment is written into the path of a URL. `parse_decimal` is how every number that a person writes is read,
-//! and `join` how every text is joined to a URL. `ConnectionId` and `Target` are the numbers by which the layers speak of
-//! connections and of what is observed.
+//! slice: they take no memory and change nothing but the bytes that they write. `put_encoded` and `push_encoded` write
+//! a segment into the path of a URL. `parse_decimal` reads every number that a person writes, and `join` joins every
+//! text to a URL. `ConnectionId` and `Target` are the numbers by which the layers speak of connections and of observed
+//! properties and events.
 //!
 //! ```
 //! use servient_base::{join, parse_decimal, put_bytes, put_encoded, put_piece};

@@ -46,7 +46,7 @@ fn parsed(alloc: Global, text: &str) -> Result<Option<Url>, NoMemory>
     }
 }
 
-/// What a refusal of the URL parser is here: a text that has no room is out of memory, and any other refusal says that
+/// Translates a refusal of the URL parser: a text that has no room is out of memory, and any other refusal says that
 /// there is no URL.
 fn refused(error: ParseError) -> Result<Option<Url>, NoMemory>
     ensures { MatchResult result (λ url. (url ≡ None) × ¬ IsOutOfRoom error) (λ _. IsOutOfRoom error) }

@@ -89,7 +89,7 @@ command_well held kinds words seen o fine quiet (is_command command meaning does
     (does_well held fine.files kinds fine.command seen o fine.told fine.faultless quiet (subst (λ (x : Command). Does held kinds x seen o) same does))
 command_well held kinds words seen o fine quiet (words_memory out) = inl (inr out.1)
 
--- how stages came out, and what was reported of it
+-- the end of stages, and the report of it
 pub stages_reported : (P : List Deed → Outcome (Unit {0}) → Type 0) (before now : Around) (out out_now : OutSeen) (r : Result Ending Ended) (result : ℕ) → EndsBy P before now r → IsReported (final_status r) (final_text r) out out_now result → NoWriteFailed out out_now (final_text r) → EndsAndReports P before now out out_now result
 stages_reported P before now out out_now r result ended reported fits =
     let comes = ends_so P before now r ended in

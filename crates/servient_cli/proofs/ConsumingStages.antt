@@ -108,7 +108,7 @@ end_stage : (P : List operation.Deed → Consumed → Type 0) (r : Consumed) (de
 end_stage P r deeds result did_so (inl is) = has_ended r deeds did_so (ap (λ (t : List ℕ). deeds_of deeds ++ did_write t ∷ []) is.1, ap (λ (n : ℕ). ends n) is.0)
 end_stage P r deeds result did_so (inr is) = line_memory r deeds did_so (ap (λ (t : List ℕ). deeds_of deeds ++ did_write t ∷ []) is.2, ap (λ (n : ℕ). ends n) is.1)
 
--- what was asked of others ended so
+-- an operation on others ended so
 pub asked_others : (files : FilesSeen) (n m : NetSeen) (slots : List Seen) (o q : OutSeen) (P : List operation.Deed → Consumed → Type 0) (r : Consumed) (result : Result Ending Ended) → operation.Shows (λ deeds. P deeds r) (sight n o) (sight m q) (put_of r) → IsEndOf r result
     → EndsPrinting (EndsAfter P) (around files (outside n slots)) (around files (outside m slots)) o q result
 asked_others files n m slots o q P r result shows is =
@@ -201,7 +201,7 @@ printed_then printed text status put.Failed out out_now later result wrote faile
     first_of_nothing [] b none = refl
     first_of_nothing (x ∷ a) b none = absurd cc
 
--- what was written before the end, and then the report
+-- the writes before the end, and then the report
 pub printing_reported : (P : List Deed → Outcome (Unit {0}) → Type 0) (before now : Around) (out out_now later : OutSeen) (r : Result Ending Ended) (result : ℕ) → EndsPrinting P before now out out_now r → IsReported (final_status r) (final_text r) out_now later result → out_now.faults ≤ later.faults
     → NoWriteFailed out_now later (final_text r) → EndsAndReports P before now out later result
 printing_reported P before now out out_now later r result e reported more fits = record {

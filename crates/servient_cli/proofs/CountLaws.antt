@@ -1,4 +1,4 @@
--- How many turns the handlers of a rack have kept, and what a run adds to that.
+-- The number of turns that the handlers of a rack have kept, and that a run adds to it.
 use Rattle.std.proofs.Common.{◌≡◌, ◌≤◌, ◌<◌, ◌+◌, ℕ, zero, suc, List, [], ◌∷◌, length, take, refl, ap, ◌∙◌, cond, arith, inl, inr, length-append}
 use Rattle.std.specs.Prelude.{Some, slice_get, IfSome}
 use Rattle.std.specs.List.{AllByRecursion}
@@ -24,7 +24,7 @@ came_more events i e within at =
     length-filter_more (λ (x : EventWithBytes). is_datagram x.event.what) events i e within
     ∙ ap (λ (x : EventWithBytes). length (came (take i events)) + cond (is_datagram x.event.what) 1 0) (get_or_from_slice_get events i e e at)
 
--- how many turns are of some slots, from this one on
+-- the number of turns of some slots, from this one on
 abbrev turns_from : List RunTurn → ℕ → List Seen → ℕ
 turns_from turns slot [] = 0
 turns_from turns slot (h ∷ slots) = length (turns_of_slot slot turns) + turns_from turns (suc slot) slots

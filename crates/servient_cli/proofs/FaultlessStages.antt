@@ -143,7 +143,7 @@ then_goes P Q Good Fine seen o quiet p q (goes_further (value, both)) =
       | inr nine ↦ absurd (end_no_on value 9 nine)
     ]
 
--- what is said of the files
+-- a fact of the files
 pub told : (held : Option (List HeldFile)) (files : List HeldFile) (P : List HeldFile → Type 0) → held ≡ Some files → IfSome held P → P files
 told held files P is known = subst (λ (h : Option (List HeldFile)). IfSome h P) is known
 
@@ -271,7 +271,7 @@ plans_well held files None p seen o is_held fine quiet (is_built_in saw goes) = 
 plans_well held files None p seen o is_held fine quiet (built_in_memory end) = inr end.1
 plans_well held files (Some name) p seen o is_held fine quiet stage = planned_well held files name p seen o is_held fine quiet stage
 
--- what a replay reads
+-- the inputs of a replay
 abbrev pub with_events : (p : Planned) (events : List EventWithBytes) → Inputs
 with_events p events = record { planned = p; events = events }
 

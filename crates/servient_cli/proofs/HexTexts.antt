@@ -76,7 +76,7 @@ value_read : (c i : ℕ) (o : Option ℕ) (v : ℕ) → digit_or_error c i o ≡
 value_read c i (Some w) v reads = cc reads
 value_read c i None v reads = cc reads
 
--- what an `Ok` after `>>=` shows
+-- the step that an `Ok` after `>>=` shows
 step_read : {A B : Type 0} (r : Result A FromHexError) (f : A → Result B FromHexError) (y : B)
     → (r >>= f) ≡ Ok y → (x : A) × (r ≡ Ok x) × (f x ≡ Ok y)
 step_read (Ok x) f y reads = (x, refl, reads)
@@ -131,7 +131,7 @@ hex_text-decoded text (b ∷ bs) decodes lower some =
     let facts = decode_of-ok text (b ∷ bs) decodes in
     sym (encode_lower-decode_pairs 0 text (b ∷ bs) (sym (decode_of-even text facts.0) ∙ decodes) lower)
 
--- what is known of the text of one byte or more
+-- the facts on the text of one byte or more
 pub record IsDigitsOf (text bytes : List ℕ) : Type 0 where
   pub size : length text ≡ 2 * length bytes
   pub some : 0 < length bytes

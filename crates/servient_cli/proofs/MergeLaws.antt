@@ -70,7 +70,7 @@ none_begins number from (turns ∷ by_slot) split =
 found_at : {X : Type 0} (p : X → Bool) (xs : List X) (i : ℕ) → i < length xs → position_or_len p xs ≡ i → position p xs ≡ Some i
 found_at p xs i within e = let t : nat_lt i (length xs) ≡ true = lt-ltb i (length xs) within in rw (e, t) refl
 
--- what the slot of the first turn has, and what is left then
+-- the turns that the slot of the first turn has, and those that are left then
 slot_has : (from i : ℕ) (t : RunTurn) (more : List RunTurn) (by_slot : List (List Turn)) (d : List Turn) → AreSplit (t ∷ more) from by_slot → t.slot ≡ from + i → i < length by_slot
     → get_or by_slot i d ≡ kept_turn t ∷ turns_of_slot t.slot more
 slot_has from i t more [] d split place within = absurd (omega (arith, within))
@@ -152,7 +152,7 @@ place_in_map p f (x ∷ xs) = ap (λ (n : ℕ). cond (not (p (f x))) (1 + n) 0) 
 pub position_in_map : {X Y : Type 0} (p : Y → Bool) (f : X → Y) (xs : List X) → position p (map f xs) ≡ position (λ x. p (f x)) xs
 position_in_map p f xs = rw (place_in_map p f xs, length-map xs f) refl
 
--- what is none of the places is none
+-- a value that is none of the places is none
 pub no_place : (o : Option ℕ) → ((i : ℕ) → o ≡ Some i → ⊥) → o ≡ None
 no_place None none = refl
 no_place (Some i) none = absurd (none i refl)
@@ -220,7 +220,7 @@ kept_since turns from (h ∷ before) [] grew = absurd grew
 kept_since turns from (h ∷ before) (k ∷ after) grew =
     (omega (arith, ap (λ (ts : List Turn). length ts) grew.1, length-append h.turns (turns_of_slot from turns)), kept_since turns (suc from) before after grew.2)
 
--- what they kept since some time are the turns since then by their slots
+-- the turns that they kept since some time are those since then by their slots
 pub split_since : (turns : List RunTurn) (from : ℕ) (before after : List Seen) → GrewBy turns from before after → AreSplit turns from (turns_after (counts_of before) after)
 split_since turns from [] [] grew = tt
 split_since turns from [] (k ∷ after) grew = absurd grew

@@ -46,7 +46,7 @@ TakesOn held all left models before now =
 pub takes_first : (held : Option (List HeldFile)) (all : List (List ℕ × List ℕ)) (before : FilesSeen) → TakesOn held all (drop 0 all) [] before before
 takes_first held all before = λ w later o text p. p
 
--- what is left at an index begins with what is there
+-- the rest at an index begins with the model that is there
 left_at : (all : List (List ℕ × List ℕ)) (i : ℕ) (d model : List ℕ × List ℕ) → i < length all → model ≡ get_or all i d → drop i all ≡ model ∷ drop (i + 1) all
 left_at all i d model within is = drop-cons all i d within ∙ ap (λ (m : List ℕ × List ℕ). m ∷ drop (suc i) all) (sym is) ∙ ap (λ (n : ℕ). model ∷ drop n all) (sym (add-one i))
 
@@ -116,7 +116,7 @@ refused_ends p a (Ok ending) e ended_so line known comes (inr is) =
 
 -- ---- a plan and its models
 
--- what follows the content of a plan, its tree, and the plan
+-- the stages after the content of a plan, its tree, and the plan
 abbrev pub after_plan : Option (List HeldFile) → Plan → List Deed → Outcome Planned → Type 0
 after_plan held plan = AndThen (TakesModels held plan.models []) (IsPlanned plan)
 

@@ -1,4 +1,4 @@
--- What a run over the events of a script took, made and showed.
+-- The events that a run over a script took, and the acts and turns that it made and showed.
 use Rattle.std.proofs.Common.{◌≡◌, ◌≢◌, ℕ, ◌<◌, ◌≤◌, List, [], ◌∷◌, ◌++◌, Option, Some, None, Bool, true, false, length, take, refl, sym, ap, subst, ◌∙◌, arith, length-append}
 use Rattle.std.proofs.lemmas.List.Elements.{filter_map-append}
 use Rattle.std.specs.Prelude.{◌||◌, IfSome, IsSome}
@@ -262,13 +262,13 @@ pub spent_took : (events : List EventWithBytes) (budget : ℕ) (site : Site) (s 
 spent_took events budget site s t seen ends r =
     (r.first ∙ ap (λ (n : ℕ). take n (run_events events)) r.taken.1, omega (arith, fewer_taken (run_events events) r.took (run_ends events ends) r.taken.0 r.next, r.taken.1))
 
--- what is left to come is still known after serving
+-- the events that are left to come are still known after serving
 pub still_known : (events : List EventWithBytes) (budget : ℕ) (result : Served) (site : Site) (s t : State) (seen : List Sighting) (left now : Option (List EventWithBytes)) → left ≡ Some (with_stop events) → Leaves (happened_in seen) left now → IsServed events budget result site s t seen → IsSome now
 still_known events budget result site s t seen left now known leaves r =
     left_known (happened_in seen) (with_stop events) now (subst (λ (o : Option (List EventWithBytes)). Leaves (happened_in seen) o now) known leaves) r.unbroken
     (omega (arith, ap (λ (es : List EventWithBytes). length es) r.hears, r.few, no_longer events))
 
--- what a network shows that showed nothing before is what happened
+-- the happenings that a network shows that showed none before are all
 pub all_told : (before now : Option (List Happening)) (happened : List Happening) → before ≡ Some [] → Continues before now happened → IfSome now (λ all. all ≡ happened)
 all_told before None happened none continues = tt
 all_told before (Some all) happened none continues =
@@ -279,13 +279,13 @@ pub acts_shown : (now : Option (List Happening)) (happened : List Happening) (sh
 acts_shown None happened shown some is told = absurd cc
 acts_shown (Some all) happened shown some is told = sym told ∙ ap acts_in is
 
--- what was put together is the print
+-- the text that was put together is the print
 pub printed : (whole : List ℕ) (shown acts : List Act) (turns : List RunTurn) → shown ≡ acts → whole ≡ print_text shown turns → whole ≡ print_text acts turns
 printed whole shown acts turns same is = is ∙ ap (λ (made : List Act). print_text made turns) same
 
 -- ---- from the clause of serving
 
--- what the run of a script is, where serving began on a network that knows the script
+-- the run of a script, where serving began on a network that knows the script
 pub run_of : (events : List EventWithBytes) (budget : ℕ) (result : Served) (site : Site) (s : State) (kept later : Layers) (w v : Outside) → StandsFor kept s → Refines StandsFor Shows (Serves site budget result) kept later w v → StopsAtEnd events → w.net.left ≡ Some (with_stop events)
     → (t : State) × (seen : List Sighting) × IsServed events budget result site s t seen × Shows w v seen
 run_of events budget result site s kept later w v stands refines ends known =

@@ -45,14 +45,14 @@ then_rose a b c more rose = omega (arith, rose, more)
 pub line_alone : (line : List ℕ) → text_in (did_write line ∷ []) ≡ line
 line_alone line = append-nil line
 
--- what is shown where only a text was written, and where nothing was done
+-- the deeds that are shown where only a text was written, and where nothing was done
 pub shows_wrote : (a : Around) (text : List ℕ) → ShowsDeeds a a (did_write text ∷ [])
 shows_wrote a text = record { reads = continues_same a.files.reads; faults = omega arith; failed = λ none. absurd none; no_failure = no_read_failed_same a.files; outside = sections_in_order.none a.outside }
 
 pub shows_nothing : (a : Around) → ShowsDeeds a a []
 shows_nothing a = record { reads = continues_same a.files.reads; faults = omega arith; failed = λ none. absurd none; no_failure = no_read_failed_same a.files; outside = sections_in_order.none a.outside }
 
--- what is shown at one time and then at another
+-- deeds that are shown at one time and then at another
 pub shows_then : (a b c : Around) (first second : List Deed) → ShowsDeeds a b first → ShowsDeeds b c second → ShowsDeeds a c (first ++ second)
 shows_then a b c first second p q = record {
   reads = subst (λ (files : List FileRead). Continues a.files.reads c.files.reads files) (sym (filter_map-append read_in first second))

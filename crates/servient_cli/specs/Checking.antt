@@ -18,7 +18,7 @@ pub data Judges (tree : Tree) (seen : List Deed) (o : Outcome (Unit {0})) : Type
       → EndsWith [] 5 (invalid_line number pointer) seen o → Judges tree seen o
   judge_memory : RunsOut [] seen o → Judges tree seen o
 
--- what is done with the content of a description
+-- the verdict on the content of a description
 abbrev pub Checks : List ℕ → List ℕ → List Deed → Outcome (Unit {0}) → Type 0
 Checks name content = AndThen (ReadsTree name content) Judges
 

@@ -1,13 +1,14 @@
 -- The commands, and what the program reports of them.
 --
--- What the words mean is the grammar's, `meaning_of` of `command_words`.
+-- The grammar gives the meaning of the words, `meaning_of` of `command_words`.
 -- `replay SCRIPT [PLAN]` reads the plan and its models, if a plan is named, and the script, runs its events, and prints
 -- the acts and the turns. `serve PLAN` reads a plan and its models, listens at the plan's place, and serves what comes
--- there, as many events as its budget has. `check TD` reads a Thing Description and says whether it is valid, or its first fault. `derive PLAN` reads a
--- plan and its models, and prints the descriptions of its Things, or the first fault. `storm SEED N` runs events that
--- are drawn from a seed on the built-in Thing, and counts what came of them. `consume TD OPERATION NAME` reads a
--- description, and does an operation on the Thing that it describes. `discover HOST:PORT` asks a server which Things it
--- has. Each is a row of stages, in a file of its own. A further command adds its file and a row.
+-- there, as many events as its budget has. `check TD` reads a Thing Description and says whether it is valid, or its
+-- first fault. `derive PLAN` reads a plan and its models, and prints the descriptions of its Things, or the first
+-- fault. `storm SEED N` runs events that are drawn from a seed on the built-in Thing, and counts what came of them.
+-- `consume TD OPERATION NAME` reads a description, and does an operation on the Thing that it describes. `discover
+-- HOST:PORT` asks a server which Things it has. Each is a row of stages, in a file of its own. A further command adds
+-- its file and a row.
 use Rattle.std.specs.Prelude.{◌≡◌, ◌≢◌, ◌≤◌, ◌⊎◌, ℕ, Bool, true, false, List, [], ◌++◌, Option, Some, None, Ok, length}
 use Rattle.servient_base.specs.Count.{Rose}
 use Rattle.wot_json.specs.Tree.{Json}
@@ -41,7 +42,7 @@ use Rattle.servient_cli.specs.Deriving.{ReadsPlanned, DerivesAndPrints, IsFaultl
 
 -- ---- the table of commands
 
--- What each of them does, where the files hold this, so far as that is recorded, and the rack has
+-- The work of each of them, where this is the content of the files, so far as that is recorded, and the rack has
 -- handlers of these kinds.
 abbrev pub Does : Option (List HeldFile) → List Kind → Command → List Deed → Outcome (Unit {0}) → Type 0
 Does held kinds (Replay script plan events) = Replays held kinds script plan events
@@ -84,7 +85,7 @@ is_networked command = false
 abbrev pub IsNoCommand : List (List ℕ) → Type 0
 IsNoCommand words = meaning_of words ≡ None
 
--- What the words of the command line lead to.
+-- The command of the words of the command line.
 pub data Commands (held : Option (List HeldFile)) (kinds : List Kind) (words : List (List ℕ)) (seen : List Deed) (o : Outcome (Unit {0})) : Type 0 where
   is_no_command : IsNoCommand words → EndsWith [] 2 usage_line seen o → Commands held kinds words seen o
   is_command : (command : Command) → meaning_of words ≡ Some command → Does held kinds command seen o → Commands held kinds words seen o
@@ -110,7 +111,7 @@ pub record EndsAndReports (P : List Deed → Outcome (Unit {0}) → Type 0) (bef
   pub reported : IsReported status (text_in seen) out out_now result
   pub no_failure : NoWriteFailed out out_now (text_in seen)
 
--- What the top call did: the command of its words.
+-- The top call did this: the command of its words.
 abbrev pub Ends : List (List ℕ) → Around → Around → OutSeen → OutSeen → ℕ → Type 0
 Ends words before now out out_now result =
     EndsAndReports (Commands before.files.held (kinds_of before.outside.slots) words) before now out out_now result
@@ -164,7 +165,8 @@ abbrev pub HoldsInput : List HeldFile → Option (List ℕ) → Type 0
 HoldsInput files None = Unit {0}
 HoldsInput files (Some name) = HoldsFaultless files longest_json name (λ content. (value : Json) × (tree_of content ≡ Some value))
 
--- nothing is wrong with a consumption: the description has no fault, nothing is wrong with the value, and a form qualifies
+-- nothing is wrong with a consumption: the description has no fault, nothing is wrong with the value, and a form
+-- qualifies
 pub record IsFaultlessConsumption (files : List HeldFile) (k : Consumption) : Type 0 where
   pub tree : Json
   pub described : HoldsFaultless files longest_json k.description (λ content. (tree_of content ≡ Some tree) × (faults_of tree ≡ []))
@@ -190,18 +192,18 @@ pub record IsFaultless (words : List (List ℕ)) (held : Option (List HeldFile))
   pub told : held ≡ Some files
   pub faultless : HasFaultlessFiles files kinds command
 
--- What is known to have failed: reads of files, calls of the network, the output. None of them did.
+-- The failures that are known: of reads of files, of calls of the network, of the output. There was none.
 pub record NothingFailed (before now : Around) (out out_now : OutSeen) : Type 0 where
   pub no_read : ¬ (Rose before.files.faults now.files.faults)
   pub no_call : ¬ (Rose before.outside.net.faults now.outside.net.faults)
   pub no_write : ¬ (Rose out.faults out_now.faults)
 
--- how a discovery may end: not by a file, a fault of a description, or the want of a form
+-- the statuses with which a discovery may end: not by a file, a fault of a description, or the want of a form
 abbrev pub MayDiscover : ℕ → Type 0
 MayDiscover result = (result ≢ 3) × (result ≢ 4) × (result ≢ 5) × (result ≢ 12)
 
--- how `consume` and `discover` may also end, which those that are asked decide: by what came in place of a success, by
--- silence, or by more events than are awaited
+-- the statuses with which `consume` and `discover` may also end, which the servers that are asked decide: by another
+-- outcome than a success, by silence, or by more events than are awaited
 abbrev pub IsAnswered : ℕ → Type 0
 IsAnswered result = (result ≡ 10) ⊎ (result ≡ 11) ⊎ (result ≡ 8)
 

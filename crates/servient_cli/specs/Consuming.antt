@@ -76,7 +76,7 @@ pub data Chooses (tree : Tree) (op : Op) (name : List ℕ) (only : Option Scheme
 
 -- ---- the operation
 
--- what an operation does, as a command does it
+-- the deed of an operation, as that of a command
 abbrev pub deed_of : operation.Deed → Deed
 deed_of (happens h) = did_see (at_network h)
 deed_of (prints text) = did_write text
@@ -99,7 +99,7 @@ outcome_text outcome.Reset = codes "reset"
 outcome_text outcome.Stopped = codes "stopped"
 outcome_text (outcome.Status s) = status_text s
 
--- how an operation that ended so ends the command, or a discovery: the status, and the line
+-- the end of the command of an operation that ended so, or of a discovery: the status, and the line
 abbrev pub status_after : Consumed → ℕ
 status_after consumed.Done = 0
 status_after (consumed.Other x) = 10
@@ -126,7 +126,7 @@ pub record IsAskedFor (k : Consumption) (tree : Tree) (input : Option Tree) (x :
   pub input_is : option_map (λ v. json_of v.now) x.input ≡ option_map json_of input
   pub count_is : x.count ≡ k.count
 
--- What was asked of others ended so: its deeds, and then the line on how it ended.
+-- An operation on others ended so: its deeds, and then the line on its end.
 pub data EndsAfter (P : List operation.Deed → Consumed → Type 0) (seen : List Deed) (o : Outcome (Unit {0})) : Type 0 where
   has_ended : (r : Consumed) (deeds : List operation.Deed) → P deeds r → EndsWith (deeds_of deeds) (status_after r) (line_after r) seen o → EndsAfter P seen o
   -- the line was out of memory
@@ -141,7 +141,7 @@ pub record IsOperated (k : Consumption) (tree : Tree) (input : Option Tree) (c :
 abbrev pub Operates : Consumption → Tree → Option Tree → Chosen → List Deed → Outcome (Unit {0}) → Type 0
 Operates k tree input c = EndsAfter (IsOperated k tree input c)
 
--- what is done with a description and a value
+-- the operation on a description with a value
 abbrev pub OperatesOn : Consumption → Tree → Option Tree → List Deed → Outcome (Unit {0}) → Type 0
 OperatesOn k tree input = AndThen (Chooses tree (form_operation k.operation) k.name k.scheme) (Operates k tree input)
 
@@ -153,13 +153,13 @@ ConsumesThing held k = AndThen (ReadsDescription held k.description) (ConsumesBy
 
 -- ---- how code comes out that wrote before its end
 
--- how an operation that ended so is reported, unless the line was out of memory
+-- the report of an operation that ended so, unless the line was out of memory
 abbrev pub IsEndOf : Consumed → Result Ending Ended → Type 0
 IsEndOf r result =
     (final_status result ≡ status_after r) × (final_text result ≡ line_after r) ⊎ (¬ (r ≡ consumed.Unprinted)) × (final_status result ≡ 9) × (final_text result ≡ memory_line)
 
--- A command came out with a status and a text to write, and the outside shows what it did. It has written a part of what
--- it wrote, or couldn't, and then, and only then, it ends by that.
+-- A command came out with a status and a text to write, and the outside shows what it did. It has written a part of
+-- what it wrote, or couldn't, and then, and only then, it ends by that.
 pub record ComesOutPrinting (P : List Deed → Outcome (Unit {0}) → Type 0) (before now : Around) (out out_now : OutSeen) (status : ℕ) (text : List ℕ) : Type 0 where
   pub seen : List Deed
   pub stage : P seen (ends status)

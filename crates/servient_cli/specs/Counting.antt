@@ -1,4 +1,4 @@
--- What is counted in a run: the datagrams that came, those that were sent, and the turns of the handlers.
+-- The counts of a run: the datagrams that came, those that were sent, and the turns of the handlers.
 use Rattle.std.specs.Prelude.{ℕ, ◌+◌, ◌==◌, Bool, true, false, List, [], ◌∷◌, ◌++◌, length, slice_get, codes, decimal, Option, Some, None}
 use Rattle.std.specs.List.{filter}
 use Rattle.coap_msg.specs.declared.constants.TheConstants.{SERVICE_UNAVAILABLE}
@@ -39,8 +39,8 @@ abbrev pub has_code : ℕ → Option ℕ → Bool
 has_code code None = false
 has_code code (Some byte) = byte == code
 
--- A datagram with the code 5.03, Service Unavailable (RFC 7252, section 5.9.3.4), was sent. A full table of exchanges is
--- answered so.
+-- A datagram with the code 5.03, Service Unavailable (RFC 7252, section 5.9.3.4), was sent. A full table of exchanges
+-- is answered so.
 abbrev pub is_unavailable : Act → Bool
 is_unavailable (act.Sent c bytes) = false
 is_unavailable (act.Closed c) = false
@@ -67,7 +67,7 @@ storm_line c =
 
 -- ---- how code counts turns
 
--- how many turns all handlers have kept
+-- the number of turns that all handlers have kept
 abbrev pub turns_kept : List Seen → ℕ
 turns_kept [] = 0
 turns_kept (h ∷ slots) = length h.turns + turns_kept slots

@@ -30,7 +30,7 @@ pub data ReadsPlan (name : List ℕ) (tree : Tree) (seen : List Deed) (o : Outco
 
 -- ---- the models
 
--- why a model isn't taken, as the line on its file says it
+-- the cause for which a model isn't taken, as the line on its file says it
 pub data IsNotTaken (url : List ℕ) (model : Json) (models : Models) (what : List ℕ) : Type 0 where
   has_bad_url : HasAddFault add.BadUrl url model models → what ≡ codes "url" → IsNotTaken url model models what
   is_there_twice : HasAddFault add.Twice url model models → what ≡ codes "twice" → IsNotTaken url model models what
@@ -65,7 +65,7 @@ ReadsPlanned held name =
 
 -- ---- the descriptions
 
--- what the plan's root is derived into
+-- the Things that are derived from the plan's root
 abbrev pub derived_of : Planned → Result (List (List ℕ × Json)) DeriveFault
 derived_of p = derived p.library p.plan.bindings p.plan.choices p.plan.frame p.plan.root
 
@@ -87,7 +87,7 @@ pub data Prints (things : List (List ℕ × Json)) (seen : List Deed) (o : Outco
   is_printed : EndsWith [] 0 (things_text things) seen o → Prints things seen o
   print_memory : RunsOut [] seen o → Prints things seen o
 
--- what `derive` does with a plan and its models
+-- the work of `derive` on a plan and its models
 abbrev pub DerivesAndPrints : Planned → List Deed → Outcome (Unit {0}) → Type 0
 DerivesAndPrints p = AndThen (Derives p) Prints
 

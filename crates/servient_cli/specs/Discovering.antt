@@ -1,5 +1,5 @@
--- `discover HOST:PORT`: the server there is asked over CoAP for its links (RFC 6690). The URLs of the Things to which they lead
--- are written, one a line, and then comes the line on how it ended, if it wasn't done. No file is read.
+-- `discover HOST:PORT`: the server there is asked over CoAP for its links (RFC 6690). The URLs of the Things to which
+-- they lead are written, one a line, and then comes the line on how it ended, if it wasn't done. No file is read.
 use Rattle.std.specs.Prelude.{ℕ, List}
 use Rattle.wot_consumer.specs.Discovery.{links_of}
 use Rattle.consuming.specs.Consuming.{Discovers}

@@ -1,4 +1,4 @@
--- How a stage of the code ends: with a value, or with a status and a text.
+-- The end of a stage of the code: a value, or a status and a text.
 use Rattle.std.specs.Prelude.{◌≡◌, ℕ, List, [], Result, Ok, Err}
 use Rattle.std.specs.declared.alloc.AllocError.{AllocError}
 use Rattle.servient_cli.specs.declared.ending.Ending.{Ending}

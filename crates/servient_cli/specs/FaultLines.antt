@@ -47,7 +47,7 @@ refused_line fault.NoMemory = memory_line
 
 -- ---- the fit to the rack
 
--- what doesn't fit, and of which Thing and affordance it is said
+-- the fields of a misfit: its word, its Thing and its affordance
 abbrev pub misfit_fields : List ℕ → List ℕ → List ℕ → List ℕ
 misfit_fields word segment pointer = word ++ field_text segment ++ field_text pointer
 

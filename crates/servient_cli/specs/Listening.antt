@@ -1,5 +1,5 @@
--- `serve PLAN`: the Things of a plan are served at the plan's place, over the network, until a Stop comes, the budget of
--- events is taken, or no number is left for a further turn.
+-- `serve PLAN`: the Things of a plan are served at the plan's place, over the network, until a Stop comes, the budget
+-- of events is taken, or no number is left for a further turn.
 use Rattle.std.specs.Prelude.{◌≡◌, ◌*◌, ◌-◌, ◌^◌, ℕ, List, [], map, Option}
 use Rattle.wot_terms.specs.declared.kind.Kind.{Kind}
 use Rattle.servient_outside.specs.declared.files.HeldFile.{HeldFile}
@@ -37,8 +37,8 @@ pub data Listens (place : Place) (seen : List Deed) (o : Outcome (Unit {0})) : T
   place_memory : RunsOut [] seen o → Listens place seen o
   listen_memory : RunsOut (happens (listens_as place listened.NoMemory)) seen o → Listens place seen o
 
--- how serving ends the command: the status, and the line; 8 is no fault, because how many events come
--- is the network's business
+-- the end of the command by serving: the status, and the line; 8 is no fault, because the number of events that come is
+-- the network's business
 abbrev pub status_after : Served → ℕ
 status_after served.Stopped = 0
 status_after served.Failed = 6
@@ -80,7 +80,7 @@ abbrev pub ServesBy : Budget → ℕ → Option ℕ → Site → List Deed → O
 ServesBy (budget.Events n) = ServesEvents n
 ServesBy budget.Endless = Endures
 
--- what is done once the plan is read, where serving ends after n seconds without traffic, or never for 0
+-- the work once the plan is read, where serving ends after n seconds without traffic, or never for 0
 abbrev pub ServesPlanned : List ℕ → List Kind → Budget → ℕ → Planned → List Deed → Outcome (Unit {0}) → Type 0
 ServesPlanned name kinds budget idle p =
     AndThen (Opens name kinds p) (λ site. AndThen (Listens (place_of p.plan (idle * 1000))) (λ _. ServesBy budget p.plan.exchanges p.plan.epoch site))

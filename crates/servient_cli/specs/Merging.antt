@@ -21,7 +21,7 @@ abbrev pub begins_with : ℕ → List Turn → Bool
 begins_with number [] = false
 begins_with number (t ∷ turns) = t.number == number
 
--- how many turns each handler has kept
+-- the number of turns that each handler has kept
 abbrev pub counts_of : List Seen → List ℕ
 counts_of = map (λ h. length h.turns)
 

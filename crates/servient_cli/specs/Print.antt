@@ -1,4 +1,4 @@
--- What a replay prints: its acts in order, and then its turns by number, each on a line of its own.
+-- The print of a replay: its acts in order, and then its turns by number, each on a line of its own.
 use Rattle.std.specs.Prelude.{ℕ, List, [], ◌∷◌, ◌++◌, codes, decimal, Option, Some, None}
 use Rattle.std.specs.List.{flat_map}
 use Rattle.wot_json.specs.declared.tree.Tree.{Tree}
@@ -28,7 +28,7 @@ abbrev pub text_if_any : Option Tree → List ℕ
 text_if_any None = codes "-"
 text_if_any (Some tree) = json_text tree
 
--- what a handler was asked
+-- the call of a handler
 abbrev pub call_text : CallKind → List ℕ
 call_text Read = codes "read"
 call_text (Write tree) = codes "write " ++ json_text tree
@@ -37,7 +37,7 @@ call_text (Query id) = codes "query " ++ decimal id
 call_text (Cancel id) = codes "cancel " ++ decimal id
 call_text Poll = codes "poll"
 
--- what it answered
+-- its answer
 abbrev pub answer_text : Answer → List ℕ
 answer_text (Value tree) = codes "value " ++ json_text tree
 answer_text Done = codes "done"

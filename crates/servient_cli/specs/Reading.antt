@@ -1,4 +1,4 @@
--- What the commands read: files, and the JSON texts in them.
+-- The inputs of the commands: files, and the JSON texts in them.
 use Rattle.std.specs.Prelude.{◌≡◌, ◌<◌, ◌≤◌, ℕ, List, [], ◌∷◌, ◌++◌, Option, Some, IfSome, IsSomeAnd, None, length, codes}
 use Rattle.wot_json.specs.Json.{json_string}
 use Rattle.wot_json.specs.Meaning.{json_of}
@@ -47,7 +47,7 @@ pub data ReadsFile (held : Option (List HeldFile)) (limit : ℕ) (name : List �
 
 -- ---- JSON texts
 
--- why bytes have no tree, as the line on a faulty file says it
+-- the cause for which bytes have no tree, as the line on a faulty file says it
 pub data HasNoTree (content what : List ℕ) : Type 0 where
   -- they are no JSON text
   is_no_json : value_of content ≡ None → what ≡ codes "json" → HasNoTree content what

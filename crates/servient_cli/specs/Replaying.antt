@@ -38,7 +38,7 @@ abbrev pub Plans : Option (List HeldFile) → Option (List ℕ) → List Deed �
 Plans held None = TakesBuiltIn
 Plans held (Some name) = ReadsPlanned held name
 
--- how a line on the fit to the rack names the plan: its file, or `builtin`
+-- the name that a line on the fit to the rack gives the plan: its file, or `builtin`
 abbrev pub plan_name : Option (List ℕ) → List ℕ
 plan_name None = codes "builtin"
 plan_name (Some name) = name
@@ -58,7 +58,7 @@ pub data ReadsScript (name content : List ℕ) (seen : List Deed) (o : Outcome (
 abbrev pub ReadsEvents : Option (List HeldFile) → List ℕ → List Deed → Outcome (List EventWithBytes) → Type 0
 ReadsEvents held name = AndThen (ReadsFile held longest_script name) (ReadsScript name)
 
--- What a replay reads: the plan and its models, and then the script.
+-- The reads of a replay: the plan and its models, and then the script.
 pub data HasRead (p : Planned) (events : List EventWithBytes) (seen : List Deed) (o : Outcome Inputs) : Type 0 where
   has_read : seen ≡ [] → o ≡ goes_on (record { planned = p; events = events }) → HasRead p events seen o
 
@@ -99,7 +99,7 @@ pub data RunsScript (budget : ℕ) (events : List EventWithBytes) (exchanges : �
   run_memory : (ran : List Sighting) (end : State) (count : ℕ) → Run site (take count (run_events events)) (start site exchanges epoch) ran end
       → RunsOut (calls_of_run ran) seen o → RunsScript budget events exchanges epoch site seen o
 
--- what is done once the files are read
+-- the work once the files are read
 abbrev pub RunsOn : List ℕ → List Kind → ℕ → Inputs → List Deed → Outcome (Unit {0}) → Type 0
 RunsOn name kinds budget read = AndThen (Opens name kinds read.planned) (RunsScript budget read.events read.planned.plan.exchanges read.planned.plan.epoch)
 

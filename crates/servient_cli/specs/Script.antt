@@ -120,7 +120,7 @@ pub record IsFirstBadLine (bytes : List ℕ) (n : ℕ) : Type 0 where
 
 -- ---- how code reads a line
 
--- What the fields after a moment are read as: the event whose fields they are, or nothing where they are no event's.
+-- The fields after a moment are read as this: the event whose fields they are, or nothing where they are no event's.
 pub record ReadsEvent (moment : ℕ) (fields : List (List ℕ)) (o : Option EventWithBytes) : Type 0 where
   pub moment_is : IfSome o (λ e. e.event.moment ≡ moment)
   pub fields_are : IfSome o (λ e. fields ≡ what_fields e.event.what e.bytes)

@@ -1,5 +1,5 @@
--- Stages of a command: each goes on with a value, or ends the command with a status. What is seen of a stage is a list
--- of what it reads, does at the network, calls and writes, in order, and a command is one stage after another. So
+-- Stages of a command: each goes on with a value, or ends the command with a status. The trace of a stage is a list of
+-- its reads, its acts at the network, its calls and its writes, in order, and a command is one stage after another. So
 -- reads, calls and status are said once, and not for each cause of an end.
 use Rattle.std.specs.Prelude.{◌≡◌, ◌≤◌, ℕ, List, [], ◌∷◌, ◌++◌, map, Option, Some, None}
 use Rattle.std.specs.List.{filter_map, flat_map}
@@ -46,7 +46,7 @@ HasFailed (did_see sighting ∷ seen) = HasFailed seen
 HasFailed (did_forget ∷ seen) = HasFailed seen
 HasFailed (did_write text ∷ seen) = HasFailed seen
 
--- what is seen at the network and at the handlers, in order
+-- the sightings at the network and at the handlers, in order
 abbrev pub sighting_in : Deed → Option Sighting
 sighting_in (did_read file) = None
 sighting_in (did_fail file) = None
@@ -91,7 +91,7 @@ written_in (did_write text) = text
 abbrev pub text_in : List Deed → List ℕ
 text_in = flat_map written_in
 
--- How a stage comes out.
+-- The result of a stage.
 pub data Outcome (A : Type 0) : Type 0 where
   goes_on : A → Outcome A
   ends : ℕ → Outcome A
@@ -104,15 +104,15 @@ EndsWith before status line seen o = (seen ≡ before ++ did_write line ∷ []) 
 abbrev pub RunsOut : {A : Type 0} → List Deed → List Deed → Outcome A → Type 0
 RunsOut before seen o = EndsWith before 9 memory_line seen o
 
--- One stage, and where it goes on the next, which takes its value: two moves with a value that is passed on. What a
--- stage reads is constant, so these moves have no state; a stage that ends has no value, and is a case of its own.
+-- One stage, and the next after it, which takes its value: two moves with a value that is passed on. The inputs of a
+-- stage are constant, so these moves have no state; a stage that ends has no value, and is a case of its own.
 pub data AndThen {A B : Type 0} (P : List Deed → Outcome A → Type 0) (Q : A → List Deed → Outcome B → Type 0) (seen : List Deed) (o : Outcome B) : Type 0 where
   ends_first : (status : ℕ) → P seen (ends status) → o ≡ ends status → AndThen P Q seen o
   goes_further : Passing {S = Unit {0}} (λ value s first t. P first (goes_on value)) (λ value s second t. Q value second o) tt seen tt → AndThen P Q seen o
 
 -- ---- what the outside shows of them
 
--- What is seen at one time of the files, and of the network and the handlers.
+-- The view at one time of the files, and of the network and the handlers.
 pub record Around : Type 0 where
   pub files : FilesSeen
   pub outside : Outside
@@ -120,8 +120,9 @@ pub record Around : Type 0 where
 abbrev pub around : FilesSeen → Outside → Around
 around files outside = record { files = files; outside = outside }
 
--- From one time to another the files show these reads, and the network and the handlers what was seen of them, and
--- nothing else: in one section, unless the handlers forgot their turns. Where a read failed, the count of failures rose; it never falls, and stays where no read fails.
+-- From one time to another the files show these reads, and the network and the handlers the sightings among these
+-- deeds, and nothing else: in one section, unless the handlers forgot their turns. Where a read failed, the count of
+-- failures rose; it never falls, and stays where no read fails.
 pub record ShowsDeeds (before now : Around) (seen : List Deed) : Type 0 where
   pub reads : Continues before.files.reads now.files.reads (reads_in seen)
   pub faults : before.files.faults ≤ now.files.faults

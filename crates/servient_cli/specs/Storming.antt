@@ -1,5 +1,5 @@
--- `storm SEED N`: the first N events of the storm of a seed and a Stop after them are run on the built-in Thing, and what
--- came of them is counted. It reads no file and does nothing to the network: its own is in memory.
+-- `storm SEED N`: the first N events of the storm of a seed and a Stop after them are run on the built-in Thing, and
+-- what came of them is counted. It reads no file and does nothing to the network: its own is in memory.
 use Rattle.std.specs.Prelude.{◌≡◌, ℕ, List, length, take, Option, None}
 use Rattle.wot_terms.specs.declared.kind.Kind.{Kind}
 use Rattle.servient_outside.specs.declared.net.EventWithBytes.{EventWithBytes}
@@ -29,12 +29,12 @@ pub data RunsStorm (seed n exchanges : ℕ) (epoch : Option ℕ) (site : Site) (
   -- all of them were taken, and these are the counts of the machine's run of them
   is_counted : (ran : List Sighting) (end : State) → Run site (storm_run seed n) (start site exchanges epoch) ran end
       → EndsWith (calls_of_run ran) 0 (storm_line (counts_in ran)) seen o → RunsStorm seed n exchanges epoch site seen o
-  -- It was out of memory, before the run or after so many events, or the network in memory lost an act: the handlers were
-  -- called as in a run over those events.
+  -- It was out of memory, before the run or after so many events, or the network in memory lost an act: the handlers
+  -- were called as in a run over those events.
   storm_memory : (ran : List Sighting) (end : State) (count : ℕ) → Run site (take count (storm_run seed n)) (start site exchanges epoch) ran end
       → RunsOut (calls_of_run ran) seen o → RunsStorm seed n exchanges epoch site seen o
 
--- what is done with the plan of the Thing
+-- the work on the plan of the Thing
 abbrev pub StormsOn : List Kind → ℕ → ℕ → Planned → List Deed → Outcome (Unit {0}) → Type 0
 StormsOn kinds seed n p = AndThen (Opens (plan_name None) kinds p) (RunsStorm seed n p.plan.exchanges p.plan.epoch)
 

@@ -1,4 +1,4 @@
-//! `check TD`: whether the content of a file is a valid Thing Description, or its first fault.
+//! `check TD`: the verdict on a file's content, a valid Thing Description or its first fault.
 
 ghost use Rattle.servient_cli.specs.Stages.{Around};
 ghost use Rattle.servient_cli.specs.Checking.{Checks, Judges};

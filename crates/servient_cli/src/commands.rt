@@ -1,4 +1,4 @@
-//! What each command does, from the names of its files on.
+//! The work of each command, from the names of its files on.
 
 ghost use Rattle.std.specs.Prelude.{◌≡◌, Some, false};
 ghost use Rattle.servient_core.specs.Trace.{Outside, outside};
@@ -21,7 +21,7 @@ use servient_outside::{Files, Net};
 use std::alloc::Global;
 use thing_handler::Handlers;
 
-/// Does a command that asks no others: those write as they go.
+/// Does a command that asks no others, since those that do write as they go.
 pub fn run_command<F: Files, N: Net, R: Handlers>(
     alloc: Global,
     command: &Command,

@@ -44,7 +44,8 @@ pub fn consume_thing<F: Files, N: Net, O: Out>(
     consume_described(alloc, &described, consumption, net, out)
 }
 
-/// A description, and the value that is handed in.
+/// A description, and the value that is handed in. Its owner lends both, since a function pays at each early exit for
+/// what it owns.
 #[derive(Drop)]
 struct Described {
     tree: Tree,
@@ -116,7 +117,7 @@ fn choose_form(
     }
 }
 
-/// Does the operation by what was chosen for it.
+/// Does the operation by the form that was chosen for it.
 fn operate<N: Net, O: Out>(
     alloc: Global,
     operation: &Operation<'_>,
@@ -134,7 +135,7 @@ fn operate<N: Net, O: Out>(
     end_of(alloc, consume(alloc, operation, chosen, net, out))
 }
 
-/// How the command ends whose operation ended so, or whose discovery.
+/// The end of a command whose operation ended so, or whose discovery.
 pub fn end_of(alloc: Global, consumed: Consumed) -> Result<Ending, Ended>
     ensures { IsEndOf consumed result }
 {

@@ -12,7 +12,7 @@ use std::alloc::Global;
 use thing_handler::Handlers;
 use wot_json::{Bytes, NoMemory};
 
-/// What is counted in a run.
+/// The counts of a run.
 #[derive(Clone, Copy, Debug, PartialEq, Eq)]
 pub struct Counts {
     /// The datagrams that came.
@@ -25,11 +25,12 @@ pub struct Counts {
     pub turns: u128,
 }
 
-/// How many of some events are datagrams.
+/// The number of datagrams among some events.
 pub fn datagram_count(events: &Events) -> usize
     ensures { result ≡ length (came events.now) }
 {
     let mut count = 0;
+    // A loop by places, since `Events` has no iterator.
     for place in 0..events.len() {
         count += usize::from(is_datagram(&events.at(place).event.what));
     }
@@ -46,7 +47,7 @@ fn is_datagram(what: &What) -> bool
     }
 }
 
-/// How many datagrams were sent.
+/// The number of datagrams that were sent.
 pub fn sent_count(acts: &[Act]) -> usize
     ensures { result ≡ length (filter is_sent_act acts.now) }
 {
@@ -67,7 +68,7 @@ fn is_sent(act: &Act) -> bool
     }
 }
 
-/// How many datagrams were sent that say that the server is too busy.
+/// The number of datagrams that were sent and say that the server is too busy.
 pub fn unavailable_count(acts: &[Act]) -> usize
     ensures { result ≡ length (filter is_unavailable_act acts.now) }
 {
@@ -91,7 +92,7 @@ fn is_unavailable(act: &Act) -> bool
     }
 }
 
-/// How many turns all handlers of a rack have kept: so many that 64 bits could be too few.
+/// The number of turns that all handlers of a rack have kept, in 128 bits, since 64 could be too few.
 pub fn turns_kept<R: Handlers>(rack: &R) -> u128
     ensures { result ≡ turns_kept_in (R.slots rack.now) }
 {

@@ -83,7 +83,7 @@ fn take_models<F: Files>(
     ensures held { (F.seen files.new).held ≡ (F.seen files.old).held }
 {
     let mut library = Library::new(alloc);
-    // The loop keeps what comes of the models that are left: however it comes out with those, all come out so.
+    // The loop keeps this of the models that are left: however it comes out with those, all come out so.
     for model in models.as_slice() {
         library = take_model(alloc, model, library, files)?;
     }
@@ -134,7 +134,7 @@ fn add_model(
     }
 }
 
-/// The Things that the root of a plan is derived into.
+/// The Things that are derived from the root of a plan.
 pub fn derive_things(alloc: Global, planned: &Planned) -> Result<Things, Ended>
     ensures stage { (a : Around) → Performs (Derives planned.now) a a result }
     ensures valid { IfOk result (AllByRecursion (λ thing. IsValid thing.1)) }

@@ -1,4 +1,4 @@
-//! `discover HOST:PORT`: which Things a server has.
+//! `discover HOST:PORT`: the Things of a server.
 
 ghost use Rattle.std.specs.Prelude.{List};
 ghost use Rattle.thing_handler.specs.Handler.{Seen};

@@ -1,4 +1,4 @@
-//! How a command ends: with a status and a text, or out of memory.
+//! The end of a command: a status and a text, or out of memory.
 
 ghost use Rattle.std.specs.Prelude.{◌≡◌, ◌++◌, ◌/◌, ◌%◌, codes, decimal, IfOk, OnOk, MatchResult};
 ghost use Rattle.wot_json.specs.Json.{json_string};
@@ -14,17 +14,17 @@ use wot_json::{Bytes, NoMemory, quoted};
 /// The line where the events were more than the budget.
 pub const SPENT_LINE: &[u8] = b"servient: spent\n";
 
-/// How a command ends.
+/// The end of a command.
 #[derive(Drop)]
 pub struct Ending {
     /// The exit status.
     pub status: u8,
-    /// What is written.
+    /// The text that is written.
     pub text: Bytes,
 }
 
-/// Why a stage of a command gives no value. The lines of the others are fixed, so that nothing is allocated where
-/// they are written.
+/// The cause for which a stage of a command gives no value. The lines of the others are fixed, so that nothing is
+/// allocated where they are written.
 #[derive(Drop)]
 pub enum Ended {
     /// The command ends so.
@@ -67,7 +67,7 @@ impl From<NoMemory> for Ended {
     }
 }
 
-/// How a command ends that should end so, unless its text is out of memory.
+/// The end of a command that should end so, unless its text is out of memory.
 pub fn end_with(ending: Result<Ending, NoMemory>) -> Ended
     ensures { MatchResult ending (λ e. result ≡ Ended.With e) (λ _. result ≡ Ended.NoMemory) }
 {
@@ -171,7 +171,7 @@ impl Ending {
         Ok(Ending { status: 12, text })
     }
 
-    /// An operation came to this, and wasn't done.
+    /// An operation had this outcome, and wasn't done.
     pub fn outcome(alloc: Global, outcome: Outcome) -> Result<Ending, NoMemory>
         ensures { IfOk result (λ e. (e.status ≡ 10) × (e.text ≡ line_after (Consumed.Other outcome))) }
     {
@@ -194,7 +194,7 @@ impl Ending {
     }
 }
 
-/// How the line on a faulty file begins.
+/// The beginning of the line on a faulty file.
 fn input_text(alloc: Global, name: &str) -> Result<Bytes, NoMemory>
     ensures { IfOk result (λ b. b ≡ codes "servient: input " ++ json_string name.now ++ codes " ") }
 {

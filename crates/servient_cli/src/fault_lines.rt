@@ -1,4 +1,4 @@
-//! The lines on the first fault of a derivation, and on what doesn't fit the rack.
+//! The lines on the first fault of a derivation, and on an affordance that doesn't fit the rack.
 
 ghost use Rattle.std.specs.Prelude.{◌≡◌, ◌≢◌, ◌++◌, [], ◌∷◌, codes, IfOk, OnOk};
 ghost use Rattle.wot_json.specs.Json.{json_string};
@@ -12,7 +12,7 @@ use tm_derive::DeriveFault;
 use tm_resolve::{ResolveFault, ResolveKind};
 use wot_json::{Bytes, NoMemory, Text, quoted};
 
-/// How the derivation ends that has this fault first.
+/// The end of a derivation that has this fault first.
 pub fn refused(alloc: Global, fault: &DeriveFault) -> Result<Ending, NoMemory>
     ensures line { IfOk result (λ e. (e.status ≡ 5) × (e.text ≡ refused_line fault.now)) }
     ensures known { OnOk result (fault.now ≢ DeriveFault.NoMemory) }
@@ -105,7 +105,7 @@ fn two_fields(
     Ok(text)
 }
 
-/// How a line begins.
+/// The beginning of a line.
 fn line_start(alloc: Global, segment: &Text, word: &str) -> Result<Bytes, NoMemory>
     ensures { IfOk result (λ text. text
         ≡ codes "servient: refused " ++ json_string segment.now ++ codes " " ++ word.now) }
@@ -126,7 +126,7 @@ fn put_field(alloc: Global, text: &mut Bytes, field: &Text) -> Result<(), NoMemo
     text.extend(field.as_slice())
 }
 
-/// How a plan ends whose Things don't fit the rack, this first.
+/// The end of a plan whose Things don't fit the rack, with this fault first.
 pub fn misfit(alloc: Global, name: &str, fault: &ExposeFault) -> Result<Ending, NoMemory>
     ensures line { IfOk result (λ e. (e.status ≡ 4) × (e.text ≡ input_line name.now (misfit_text fault.now))) }
     ensures known { OnOk result (fault.now ≢ ExposeFault.NoMemory) }

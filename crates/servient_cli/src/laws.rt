@@ -1,4 +1,4 @@
-//! What follows from the definitions of lines and their fields: contracts of functions that no code needs to call.
+//! Consequences of the definitions of lines and their fields: contracts of functions that no code needs to call.
 
 ghost use Rattle.std.specs.Prelude.{◌≡◌, ℕ, List};
 ghost use Rattle.servient_outside.specs.declared.net.EventWithBytes.{EventWithBytes};

@@ -1,9 +1,8 @@
 //! The commands: words, scripts, the print, and the top call.
 //!
-//! `servient_main` is what the program does. Its contract, `Ends` of `specs/Command.antt`, says for each
-//! exit status why it came and what was written. The whole output is one call of `Out::put`, but that `consume`
-//! writes each payload as it comes, and `discover` the lines of the Things before the rest; so at status 7 what was
-//! written is a prefix of a text.
+//! `servient_main` is the whole program. Its contract, `Ends` of `specs/Command.antt`, says for each exit status why it
+//! came and what was written. The whole output is one call of `Out::put`, but that `consume` writes each payload as it
+//! comes, and `discover` the lines of the Things before the rest; so at status 7 a prefix of a text was written.
 //!
 //! ```
 //! use servient_cli::servient_main;

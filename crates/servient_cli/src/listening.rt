@@ -25,18 +25,18 @@ use std::alloc::Global;
 use thing_handler::Handlers;
 use wot_json::Bytes;
 
-/// What `serve` is asked.
+/// The request of `serve`.
 #[derive(Clone, Copy)]
 pub struct Request<'a> {
     /// The name of the plan's file.
     pub plan: &'a str,
     /// The bound on the events that are taken.
     pub budget: Budget,
-    /// After how many seconds without traffic serving ends; 0 if it never does for lack of traffic.
+    /// The seconds without traffic after which serving ends; 0 if it never does for lack of traffic.
     pub idle: u32,
 }
 
-/// Reads a plan, opens its servient, listens at the plan's place, and serves what comes.
+/// Reads a plan, opens its servient, listens at the plan's place, and serves the events.
 pub fn serve_plan<F: Files, N: Net, R: Handlers>(
     alloc: Global,
     request: Request<'_>,
@@ -52,7 +52,7 @@ pub fn serve_plan<F: Files, N: Net, R: Handlers>(
     serve_planned(alloc, &planned, request, net, rack)
 }
 
-/// Opens the servient of a plan, listens at the plan's place, and serves what comes.
+/// Opens the servient of a plan, listens at the plan's place, and serves the events.
 fn serve_planned<N: Net, R: Handlers>(
     alloc: Global,
     planned: &Planned,

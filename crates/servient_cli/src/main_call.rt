@@ -36,7 +36,7 @@ const SILENT_LINE: &[u8] = b"servient: silent\n";
 /// The line for being out of memory.
 const MEMORY_LINE: &[u8] = b"servient: memory\n";
 
-/// Does what the words after the program's name say, and gives the exit status.
+/// Does the command that the words after the program's name say, and gives the exit status.
 pub fn servient_main<F: Files, N: Net, R: Handlers, O: Out>(
     alloc: Global,
     words: &[Text],
@@ -45,14 +45,14 @@ pub fn servient_main<F: Files, N: Net, R: Handlers, O: Out>(
     rack: &mut R,
     out: &mut O,
 ) -> u8
-    // The command of the words ended with a status, and what it wrote and the status were reported.
+    // The command of the words ended with a status, and its text and the status were reported.
     ensures ends { Ends words.now
         (around (F.seen files.old) (outside (N.seen net.old) (R.slots rack.old)))
         (around (F.seen files.new) (outside (N.seen net.new) (R.slots rack.new)))
         (O.seen out.old)
         (O.seen out.new) result }
-    // Where nothing is wrong and nothing failed, the command does what it is for, unless it is out of memory; but
-    // serving may spend its budget, and what is asked may answer otherwise.
+    // Where nothing is wrong and nothing failed, the command does its work, unless it is out of memory; but serving may
+    // spend its budget, and a server that is asked may answer otherwise.
     ensures complete { IsFaultless words.now (F.seen files.old).held (kinds_of (R.slots rack.old))
         → NothingFailed
         (around (F.seen files.old) (outside (N.seen net.old) (R.slots rack.old)))
@@ -60,7 +60,8 @@ pub fn servient_main<F: Files, N: Net, R: Handlers, O: Out>(
         (O.seen out.old)
         (O.seen out.new)
         → IsWell words.now result }
-    // Status 2 says that the words are no command, and nothing else does, unless the output failed or it was out of memory, which may come before anything is read: reading the words takes memory too.
+    // Status 2 says that the words are no command, and nothing else does, unless the output failed or it was out of
+    // memory, which may come before anything is read: reading the words takes memory too.
     ensures usage { (result ≡ 2 → IsNoCommand words.now) × (IsNoCommand words.now → (result ≡ 2) ⊎ (result ≡ 7) ⊎ (result ≡ 9)) }
     // Status 7 says that the output failed, which its count records.
     ensures output { result ≡ 7 → Rose (O.seen out.old).faults (O.seen out.new).faults }
@@ -91,6 +92,7 @@ pub fn servient_main<F: Files, N: Net, R: Handlers, O: Out>(
 fn asks_others(command: &Command) -> bool
     ensures { result ≡ is_asking (Some command.now) }
 {
+    // Arms of their own, since an or-pattern gives the proof a sum in place of an equation.
     match command {
         Command::Consume(_) => true,
         Command::Discover { .. } => true,
@@ -102,7 +104,7 @@ fn asks_others(command: &Command) -> bool
     }
 }
 
-/// Asks others as a command says, and reports how that ended.
+/// Asks others as a command says, and reports the end.
 fn ask_and_report<F: Files, N: Net, O: Out>(
     alloc: Global,
     command: &Command,

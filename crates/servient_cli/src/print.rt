@@ -1,4 +1,5 @@
-//! The lines that a replay prints: one for each act and each turn.
+//! The lines that a replay prints: one for each act and each turn. Each function puts its part into a text that is
+//! lent, so that it owns no text where it leaves by `?`.
 
 ghost use Rattle.std.specs.Prelude.{◌≡◌, ◌++◌, codes, map, OnOk};
 ghost use Rattle.std.specs.List.{flat_map};
@@ -77,7 +78,7 @@ pub fn put_turn(alloc: Global, out: &mut Bytes, slot: usize, turn: &Turn) -> Res
     out.extend(b"\n")
 }
 
-/// Puts what a handler was asked at the end.
+/// Puts the call of a handler at the end.
 fn put_call(alloc: Global, out: &mut Bytes, what: &CallKind) -> Result<(), NoMemory>
     ensures { OnOk result (out.new ≡ out.old ++ call_text what.now) }
 {
@@ -95,7 +96,7 @@ fn put_call(alloc: Global, out: &mut Bytes, what: &CallKind) -> Result<(), NoMem
     }
 }
 
-/// Puts what a handler answered at the end.
+/// Puts the answer of a handler at the end.
 fn put_answer(alloc: Global, out: &mut Bytes, answer: &Answer) -> Result<(), NoMemory>
     ensures { OnOk result (out.new ≡ out.old ++ answer_text answer.now) }
 {

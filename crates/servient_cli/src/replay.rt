@@ -1,4 +1,4 @@
-//! Running a script on the Things of a plan, and what the run prints.
+//! Running a script on the Things of a plan, and the print of the run.
 
 ghost use Rattle.std.specs.Prelude.{◌≡◌, ◌≤◌, ◌++◌, ℕ, List, Option, length, map, IfOk, IfSome, IsSome};
 ghost use Rattle.thing_handler.specs.Turns.{RunTurn};
@@ -35,14 +35,14 @@ use thing_handler::{Handlers, Turn};
 use tm_parts::Library;
 use wot_json::{Bytes, NoMemory, Text};
 
-/// What a replay has read: its plan with the plan's models, and the events of its script.
+/// The inputs of a replay: its plan with the plan's models, and the events of its script.
 #[derive(Drop)]
 pub struct Inputs {
     pub planned: Planned,
     pub events: Events,
 }
 
-/// How a line on the fit to the rack names the plan.
+/// The name that a line on the fit to the rack gives the plan.
 pub fn plan_name(plan: &Option<Text>) -> &str
     ensures { result.now ≡ name_of_plan plan.now }
 {
@@ -90,7 +90,7 @@ pub fn built_in(alloc: Global) -> Result<Planned, Ended>
     let mut library = Library::new(alloc);
     match library.add(plan.root.as_str(), model) {
         Ok(()) => Ok(Planned { plan, library }),
-        // The library takes this model: a test replays the built-in Thing.
+        // Out of memory alone, since the library takes this model: a test replays the built-in Thing.
         Err(_) => Err(Ended::NoMemory),
     }
 }
@@ -117,7 +117,7 @@ fn events_of(alloc: Global, name: &str, content: &[u8]) -> Result<Events, Ended>
     }
 }
 
-/// Derives the Things of what was read, gives them their handlers, and runs the events with this budget.
+/// Derives the Things of these inputs, gives them their handlers, and runs the events with this budget.
 pub fn run_inputs<R: Handlers>(
     alloc: Global,
     name: &str,
@@ -149,6 +149,7 @@ fn run_script<R: Handlers>(
         → EndsBy (RunsScript budget events exchanges epoch servient.old.exposed.site)
         (around files (outside net (R.slots rack.old))) (around files (outside net (R.slots rack.new))) result }
 {
+    // Lent on, since a function pays at each early exit for what it owns.
     let mut net = NetMemory::new(alloc, events, Calls::new(alloc))?;
     run_network(alloc, servient, &mut net, budget, rack)
 }
@@ -198,7 +199,7 @@ fn print_since<R: Handlers>(
     print(alloc, net.acts(), by_slot.as_mut_slice())
 }
 
-/// The print of acts and of turns, which each slot has its own of.
+/// The print of acts and of turns, of which each slot has its own.
 fn print(alloc: Global, acts: &[Act], by_slot: &mut [&[Turn]]) -> Result<Bytes, NoMemory>
     ensures { (turns : List RunTurn) → IsMerged 0 (map (λ left. left.now) by_slot.old) turns
         → IfOk result (λ text. text ≡ print_text acts.now turns) }

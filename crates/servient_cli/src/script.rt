@@ -42,7 +42,7 @@ const MOST_FIELDS: usize = 4;
 /// Each line ends with it.
 const LINE_FEED: u8 = b'\n';
 
-/// Why some bytes are no script.
+/// The cause for which some bytes are no script.
 #[derive(Debug, Drop, Error)]
 pub enum ScriptFault {
     /// The first line, counted from 1, that is not in the grammar.
@@ -130,7 +130,7 @@ fn event_alone(alloc: Global, moment: u64, what: What) -> EventWithBytes
     }
 }
 
-/// That a connection was opened at a moment, from the field after `open`.
+/// The event that a connection was opened at a moment, from the field after `open`.
 fn opened_at(alloc: Global, moment: u64, c: &str) -> Option<EventWithBytes>
     requires { moment ≤ LATEST_MOMENT }
     ensures { ReadsEvent moment (codes "open" ∷ c.now ∷ []) result }
@@ -139,7 +139,7 @@ fn opened_at(alloc: Global, moment: u64, c: &str) -> Option<EventWithBytes>
     Some(event_alone(alloc, moment, What::Opened(c)))
 }
 
-/// That a connection has ended at a moment, from the field after `end`.
+/// The event that a connection has ended at a moment, from the field after `end`.
 fn ended_at(alloc: Global, moment: u64, c: &str) -> Option<EventWithBytes>
     requires { moment ≤ LATEST_MOMENT }
     ensures { ReadsEvent moment (codes "end" ∷ c.now ∷ []) result }
@@ -249,7 +249,7 @@ fn event_of(alloc: Global, line: &[u8]) -> Result<Option<EventWithBytes>, NoMemo
     event_at(alloc, moment, what)
 }
 
-/// The first line, without its line feed, and what follows that.
+/// The first line, without its line feed, and the bytes after that.
 fn first_line(bytes: &[u8]) -> Option<(&[u8], &[u8])>
     ensures { MatchOption result (All (λ b. b ≢ LINE_FEED) bytes.now)
         (λ r. (bytes.now ≡ r.0.now ++ LINE_FEED ∷ r.1.now) × All (λ b. b ≢ LINE_FEED) r.0.now) }

@@ -1,4 +1,4 @@
-//! `storm SEED N`: the events of a storm are run on the built-in Thing, and what came of them is counted.
+//! `storm SEED N`: the events of a storm are run on the built-in Thing, and the datagrams and turns are counted.
 
 ghost use Rattle.std.specs.Prelude.{◌≡◌, ℕ, List, Option, IfOk, IfSome, IsSome};
 ghost use Rattle.servient_outside.specs.Network.{Happening, NetSeen, acts_in};
@@ -27,15 +27,15 @@ use storm_events::storm_events;
 use thing_handler::Handlers;
 use wot_json::NoMemory;
 
-/// How many exchanges may live in a storm: so few that their table is soon full.
+/// The number of exchanges that may live in a storm: so few that their table is soon full.
 pub const STORM_EXCHANGES: u32 = 512;
 
-/// What is to come.
+/// The load of a storm.
 #[derive(Clone, Copy, Debug, PartialEq, Eq)]
 pub struct Load {
-    /// How many events, the Stop at the end with them.
+    /// The number of events, the Stop at the end with them.
     pub events: u64,
-    /// How many of them are datagrams.
+    /// The number of datagrams among them.
     pub datagrams: usize,
 }
 

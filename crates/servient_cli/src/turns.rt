@@ -11,7 +11,7 @@ use std::alloc::{AllocError, Global};
 use thing_handler::{Handlers, Turn};
 use wot_json::{Bytes, NoMemory};
 
-/// How many turns each handler has kept so far.
+/// The number of turns that each handler has kept so far.
 pub fn turn_counts<R: Handlers>(alloc: Global, rack: &R) -> Result<Vec<usize>, NoMemory>
     ensures { IfOk result (λ counts. counts.items ≡ counts_of (R.slots rack.now)) }
 {
@@ -54,11 +54,11 @@ pub fn put_turns(alloc: Global, out: &mut Bytes, by_slot: &mut [&[Turn]]) -> Res
         put_turn(alloc, out, slot, turn)?;
         by_slot[slot] = left;
     }
-    // There is no number for a turn more.
+    // Out of memory, since there is no number for a turn more.
     Err(AllocError)
 }
 
-/// The slot whose next turn has this number. It is looked for over all slots, which costs little on a rack of 64.
+/// The slot whose next turn has this number. It is looked for over all slots, since that costs little on a rack of 64.
 fn slot_of(by_slot: &[&[Turn]], number: u64) -> Option<usize>
     ensures { result ≡ position (λ left. begins number left.now) by_slot.now }
 {

@@ -72,7 +72,7 @@ three_if_action path =
     let p0 : ThreeIfAction r0 path = or_else (has_form (the (codes ".well-known") ∷ the (codes "wot") ∷ []) path) route.Root r1 path (λ _. tt) p1 in
     p0
 
--- what is at such a path, and what it is asked to do
+-- the place of such a path, and the act that it is asked for
 abbrev ShortIfPlace : Place → List (List ℕ) → Type 0
 ShortIfPlace (action p) path = IsShortPath path
 ShortIfPlace place path = Unit {0}

@@ -1,4 +1,4 @@
--- What is done on one connection, put together.
+-- The acts on one connection, put together.
 use Rattle.std.proofs.Common.{inl, inr, ◌≡◌, ℕ, zero, suc, ◌<◌, ◌≤◌, List, [], ◌∷◌, map, Bool, true, false, refl, sym, ap, subst, ◌∙◌, arith}
 use Rattle.std.specs.Prelude.{Option, Some, None, ◌==◌, IsSome}
 use Rattle.std.proofs.lemmas.Bool.{eqb-true}
@@ -196,7 +196,7 @@ takes_nothing c k d w leads = λ s stands.
 
 -- ---- one message after another
 
--- what holds while messages are taken: all that is taken from here on, was taken since the first
+-- the invariant while messages are taken: all that is taken from here on, was taken since the first
 pub record Taking (c : ℕ) (first k : Layers) (w v : Outside) : Type 0 where
   pub onward : (e : Layers) (x : Outside) → Refines StandsFor Shows (TakesEveryMessage first.exposed.site c) k e v x
       → Refines StandsFor Shows (TakesEveryMessage first.exposed.site c) first e w x
@@ -236,7 +236,7 @@ closes_one c k d n m slots idle leads shows =
     (λ s stands. let to = leads s stands in (to.0, to.1, (idle s stands, to.2))))
     (refines_act two n m slots (act.Closed c) shows)
 
--- what holds while they are closed
+-- the invariant while they are closed
 pub record Closing (first k : Layers) (n m : NetSeen) : Type 0 where
   pub onward : (e : Layers) (l : NetSeen) (slots : List Seen) → Refines StandsFor Shows ClosesAllIdle k e (outside m slots) (outside l slots)
       → Refines StandsFor Shows ClosesAllIdle first e (outside n slots) (outside l slots)

@@ -82,7 +82,7 @@ answers_late_wait c k d n m slots oldest sends = λ s stands.
 
 -- ---- all that wait, one after another
 
--- what holds while they are answered
+-- the invariant while they are answered
 pub record Answering (P : Move) (IsDone : State → Type 0) (first k : Layers) (n m : NetSeen) : Type 0 where
   pub repeats : (slots : List Seen) → Repeating P IsDone first k (outside n slots) (outside m slots)
   pub rest : k ≡ record first { http = k.http }
@@ -114,7 +114,7 @@ none_late k none s stands =
 
 -- ---- one new value after another
 
--- what holds while they are delivered: those so far were, and the rest waits to be handed out
+-- the invariant while they are delivered: those so far were, and the rest waits to be handed out
 pub record Delivering (first k : Layers) (n m : NetSeen) : Type 0 where
   pub done : List ℕ
   pub made : DoesQuietly (Each Delivers done) first k n m
@@ -193,7 +193,7 @@ polls_and_delivers p k l e n m before after made delivered =
     (refines_thing (PollsEvent p made.emissions) k e n before after made.made)
     (subst (λ (ts : List ℕ). Refines StandsFor Shows (Each Delivers ts) (record k { exposed = e }) l (outside n after) (outside m after)) made.pending (delivered after))
 
--- what holds in a round of polls: those so far were polled, and the rest is left
+-- the invariant in a round of polls: those so far were polled, and the rest is left
 pub record Polling (first k : Layers) (round : Round) (w v : Outside) : Type 0 where
   pub done : List Placed
   pub made : Refines StandsFor Shows (Each PollsAndDelivers done) first k w v

@@ -40,7 +40,7 @@ sends_notification notice k c n m slots sends shows = λ s stands.
       },
     )
 
--- what holds while they are sent
+-- the invariant while they are sent
 pub record Notifying (first k : Layers) (n m : NetSeen) : Type 0 where
   pub repeats : (slots : List Seen) → Repeating SendsNotification NothingIsDue first k (outside n slots) (outside m slots)
   pub rest : k ≡ record first { coap = k.coap }

@@ -14,7 +14,7 @@ use Rattle.servient_core.proofs.TraceLaws.{shows_in_order}
 
 -- ---- again and again
 
--- what holds while a move is made again and again: all that is done from here on, was done since the first
+-- the invariant while a move is made again and again: all that is done from here on, was done since the first
 pub record Repeating (P : Move) (IsDone : State → Type 0) (first k : Layers) (w v : Outside) : Type 0 where
   pub onward : (e : Layers) (x : Outside) → Refines StandsFor Shows (Until P IsDone) k e v x → Refines StandsFor Shows (Until P IsDone) first e w x
 

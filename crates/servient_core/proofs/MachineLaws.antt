@@ -1,4 +1,4 @@
--- What every move of the machine keeps.
+-- The invariants of every move of the machine.
 use Rattle.std.specs.Prelude.{Option, Some, Bool}
 use Rattle.std.proofs.Common.{None, ◌≡◌, ℕ, ◌+◌, List, [], ◌∷◌, ◌++◌, map, refl, sym, ap, subst, ◌∙◌, arith, max, length, length-append, inl, inr, true, false}
 use Rattle.std.proofs.lemmas.List.Elements.{filter_map-append}

@@ -107,7 +107,7 @@ ends_quiet s t seen ends =
     (until_quiet ClosesIdle (λ (x : State). NoneIdle x.moment x.http) (λ x y calls move. closes_quiet x y calls move) rest.mid t rest.second rest.other) rest.whole)
     ends.whole
 
--- what is written calls nothing
+-- writing calls nothing
 pub writes_quiet : (site : Site) (m : Message) (done : Done) (s t : State) (seen : List Sighting) → Writes site m done s seen t → ActsOnNothing s seen t
 writes_quiet site (by_coap from ask request) done s t seen w =
     then_quiet s w.1.mid t w.1.first w.1.second seen (acts_as s (record s { coap = w.1.one.0 }) w.1.mid [] w.1.first w.1.one.2 refl refl refl)

@@ -51,7 +51,7 @@ call_counts slot what (gives a) s calls t k =
 
 -- ---- properties
 
--- what is seen is no turn
+-- seeing a value is no turn
 seen_counts : (p : Placed) (r : Result Json Outcome) (s : State) (calls : List HandlerCall) (t : State) → Becomes (with_value p r s) [] calls t → Counts s calls t
 seen_counts p (Ok value) s calls t b = counts_quiet s _ t calls refl b
 seen_counts p (Err o) s calls t b = counts_stays s t calls b

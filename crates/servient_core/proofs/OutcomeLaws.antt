@@ -29,7 +29,7 @@ use Rattle.servient_core.proofs.ActionPaths.{IsShortPath, ShortIfInvoked, short_
 sendable_as : (o p : Outcome) → o ≡ p → IsSendable p → IsSendable o
 sendable_as o p same s = subst (λ (x : Outcome). IsSendable x) (sym same) s
 
--- what is done has this outcome
+-- a deed that is done so has this outcome
 outcome_is : (done : Done) (o : Outcome) → done ≡ only o → IsSendable o → IsSendable done.outcome
 outcome_is done o is s = sendable_as done.outcome o (ap (λ (d : Done). d.outcome) is) s
 

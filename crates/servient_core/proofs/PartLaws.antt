@@ -191,7 +191,7 @@ heard_at_once site from bytes sent k c n m slots h short hears is shows =
     (subst (λ (x : Heard). Refines StandsFor Shows (AnswersDatagram site from x) (record k { coap = c }) (record k { coap = c }) (outside n slots) (outside m slots)) (sym is)
     (refines_act (record k { coap = c }) n m slots (act.Datagram from sent) shows))
 
--- what was asked is answered
+-- a request is answered
 answers_ask : (site : Site) (from : Endpoint) (ask : PlainAsk) (request : PendingReply) (sent : List ℕ) (k : Layers) (c : Server) (done : Done) (n m : NetSeen) (slots : List Seen)
     → Answers request done.outcome (observed_target site k.exposed.state ask) sent k.coap c → NetShows n m (did (act.Datagram from sent) ∷ [])
     → Refines StandsFor Shows (AnswersAsk site from ask request done) k (record k { coap = c }) (outside n slots) (outside m slots)
@@ -210,7 +210,7 @@ answers_ask site from ask request sent k c done n m slots answers shows = λ s s
       },
     )
 
--- what is asked is done and answered, and what is emitted is delivered
+-- a request is performed and answered, and its emissions are delivered
 responds_asked : (site : Site) (from : Endpoint) (ask : PlainAsk) (request : PendingReply) (sent : List ℕ) (k l : Layers) (e : Kept) (c : Server) (done : Done) (n m : NetSeen) (before after : List Seen) (v : Outside)
     → Makes RackShows (Acts site ask.request done) k.exposed.state e.state before after
     → Answers request done.outcome (observed_target site e.state ask) sent k.coap c → NetShows n m (did (act.Datagram from sent) ∷ [])
@@ -277,7 +277,7 @@ hold_streams : (hs : List (Option Held)) → HoldAll hs (map stream_of hs)
 hold_streams [] = tt
 hold_streams (h ∷ hs) = (holds_stream h, hold_streams hs)
 
--- what the code keeps stands for some state
+-- the state that the code keeps stands for some state of the machine
 pub stands_for_some : (kept : Layers) → (s : State) × StandsFor kept s
 unfolding streams_of
 stands_for_some kept = (
@@ -285,7 +285,7 @@ stands_for_some kept = (
   record { moment = refl; http = record { places = hold_streams kept.http.places; waits = refl }; coap = refl; thing = refl; directory = refl },
 )
 
--- what stands for a state does so too where only what waits to be handed out is another
+-- a state that stands for one does so too where only the emissions that wait to be handed out are others
 pub refines_from : (P : Move) (k l m : Layers) (w v : Outside) → l.moment ≡ k.moment → l.http ≡ k.http → l.coap ≡ k.coap → l.exposed.state ≡ k.exposed.state → l.directory ≡ k.directory
     → Refines StandsFor Shows P l m w v → Refines StandsFor Shows P k m w v
 refines_from P k l m w v moment http coap state directory p = λ s stands. p s (record {
@@ -305,7 +305,7 @@ fits_after P k l site w v p fits =
 
 -- ---- one connection and the others
 
--- what holds of all others, and of the one that was changed, holds of each
+-- a fact of all others, and of the one that was changed, holds of each
 at_place : (P : Option Held → Type 0) (c x : ℕ) (h : Option Held) (hs : List (Option Held)) → P (place_at x hs) → (x ≡ c → P (place_at c (with_place c h hs)))
     → P (place_at x (with_place c h hs))
 at_place P c x h [] one other = one

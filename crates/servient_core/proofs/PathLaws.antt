@@ -50,12 +50,11 @@ path_short before (o ∷ os) none =
     (λ is. segment_short before o.1 (subst (λ (n : ℕ). fault_of before (n, o.1) ≡ None) (eqb-true o.0 11 is) both.0))
     (path_short (Some o.0) os both.1)
 
--- Where no option of a message is a fault, the segments of its path have at most 255 bytes each
--- (RFC 7252, section 5.10).
+-- Where no option of a message is a fault, its path has segments of at most 255 bytes each (RFC 7252, section 5.10).
 pub asked_path_short : (os : List CoapOption) → faults_of os ≡ [] → All (λ segment. length segment ≤ 255) (values_under 11 os)
 asked_path_short os none = path_short None os none
 
--- what is asked has a short path
+-- a request that is heard has a short path
 abbrev IsShortHeard : Heard → Type 0
 IsShortHeard ignored = Unit {0}
 IsShortHeard (answered_at_once bytes) = Unit {0}
@@ -91,7 +90,7 @@ hears_short : (from : Endpoint) (bytes : List ℕ) (now : ℕ) (heard : Heard) (
 hears_short from bytes now heard s t (settled settles) = settles_short from bytes now heard s t settles
 hears_short from bytes now heard s t (admitted m slot u met reads) = reads_short from now m slot heard u t reads
 
--- What is asked for by a datagram has a path of segments of at most 255 bytes.
+-- A request that comes by a datagram has a path of segments of at most 255 bytes.
 pub asked_short : (from : Endpoint) (bytes : List ℕ) (now : ℕ) (heard : Heard) (s t : Server) (ask : PlainAsk) (request : PendingReply)
     → Hears from bytes now heard s t → heard ≡ asked ask request → All (λ segment. length segment ≤ 255) ask.request.path
 asked_short from bytes now heard s t ask request hears is = subst (λ (x : Heard). IsShortHeard x) is (hears_short from bytes now heard s t hears)

@@ -26,7 +26,7 @@ pub acts_as : (s u t : State) (shown seen : List Sighting) → Becomes u shown s
 acts_as s u t shown seen b same kept none =
     record { calls = ap calls_in b.saw ∙ none; thing = ap (λ (x : State). x.thing) b.next ∙ same; directory = ap (λ (x : State). x.directory) b.next ∙ kept }
 
--- what asks for nothing acts on nothing
+-- a message that asks for nothing acts on nothing
 unasked_acts : (site : Site) (from : Endpoint) (h : Heard) (s m t : State) (first seen second : List Sighting) → m.thing ≡ s.thing → m.directory ≡ s.directory → first ≡ []
     → seen ≡ first ++ second → ((ask : PlainAsk) (request : PendingReply) → ¬ (h ≡ asked ask request)) → AnswersDatagram site from h m second t → ActsOnNothing s seen t
 unasked_acts site from ignored s m t first seen second same kept none whole never stays =

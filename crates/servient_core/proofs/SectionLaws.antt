@@ -18,7 +18,7 @@ use Rattle.servient_core.specs.Sections.{Shown, saw, forgot, seen_of, seen_in, s
 use Rattle.servient_core.specs.declared.sections.TheConstants.{MOST_KEPT}
 use Rattle.servient_core.proofs.TraceLaws.{shows_in_order}
 
--- what was seen of what was seen alone
+-- the trace of a list that has nothing but that
 pub seen_of_shown : (seen : List Sighting) → seen_in (shown_of seen) ≡ seen
 seen_of_shown [] = refl
 seen_of_shown (x ∷ seen) = ap (λ rest. x ∷ rest) (seen_of_shown seen)
@@ -83,14 +83,14 @@ fits_forgotten site slots fits =
 
 -- ---- turns that are kept
 
--- how many turns the handlers keep after what is shown, where they kept so many before
+-- the number of turns that the handlers keep after this, where they kept so many before
 abbrev pub kept_after : ℕ → List Shown → ℕ
 kept_after kept [] = kept
 kept_after kept (forgot ∷ shown) = kept_after 0 shown
 kept_after kept (saw (at_handler call) ∷ shown) = kept_after (kept + turn_count call) shown
 kept_after kept (saw (at_network happening) ∷ shown) = kept_after kept shown
 
--- how many turns the run has then
+-- the number of turns that the run has then
 abbrev pub turns_after : ℕ → List Shown → ℕ
 turns_after turns [] = turns
 turns_after turns (forgot ∷ shown) = turns_after turns shown

@@ -31,7 +31,7 @@ pub record Rounds (site : Site) (most : ℕ) (took : List EventWithBytes) (due :
   pub in_time : IsInTime most 0 s.thing.turns shown
   pub kept : kept_after 0 shown + due ≡ t.thing.turns + MOST_KEPT
 
--- what holds before each round
+-- the invariant before each round
 pub record Endures (most : ℕ) (c d : Layers) (w v : Outside) (count due : ℕ) : Type 0 where
   pub took : List EventWithBytes
   pub rounds : Refines StandsFor ShowsInSections (Rounds c.exposed.site most took due) c d w v

@@ -1,4 +1,4 @@
--- What holds in each round of serving, and how it ends.
+-- The invariant of each round of serving, and its end.
 use Rattle.std.proofs.Common.{◌≡◌, ◌≢◌, ℕ, ◌+◌, ◌<◌, List, [], ◌∷◌, ◌++◌, length, take, refl, subst, ◌∙◌, arith, length-append}
 use Rattle.servient_base.specs.Moves.{Then, Becomes, Refines}
 use Rattle.servient_base.proofs.MovesLaws.{refines_then, refines_as, refines_each_more, refines_stays}
@@ -27,7 +27,7 @@ refines_net : (c : Layers) (n m : NetSeen) (slots : List Seen) (h : Happening) �
 refines_net c n m slots h shows = λ s stands.
     (s, stands, record { seen = at_network h ∷ []; move = record { next = refl; saw = refl }; shows = shows_at_network n m slots h shows })
 
--- what holds before each event that is served
+-- the invariant before each event that is served
 pub record Progress (c d : Layers) (w v : Outside) (count : ℕ) : Type 0 where
   pub took : List EventWithBytes
   pub run : Refines StandsFor Shows (Run c.exposed.site took) c d w v

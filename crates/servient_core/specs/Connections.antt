@@ -1,4 +1,4 @@
--- What the functions of connections say of one another.
+-- The clauses of the functions of connections.
 use Rattle.std.specs.Prelude.{◌≡◌, ◌≤◌, ◌<◌, ℕ, List, [], map, Bool, true, false, Option, Some, None}
 use Rattle.servient_base.specs.Moves.{Stays}
 use Rattle.thing_ops.specs.declared.outcome.Outcome.{Outcome}
@@ -22,7 +22,7 @@ pub record IsOn (c : ℕ) (kept : Layers) (slots : List Seen) : Type 0 where
   pub clock : kept.moment ≤ last_moment
   pub fits : Fits kept.exposed.site slots
 
--- what is done where there is a reply, and where a request waits
+-- the acts where there is a reply, and where a request waits
 abbrev pub acts_of_answer : ℕ → Option HttpReply → List Act
 acts_of_answer c None = []
 acts_of_answer c (Some reply) = acts_of_reply c reply

@@ -1,4 +1,4 @@
--- What the functions over the layers of a servient say of one another.
+-- The clauses of the functions over the layers of a servient.
 use Rattle.std.specs.Prelude.{◌≡◌, ◌⊎◌, ◌≤◌, ℕ, List, [], ◌∷◌, map, Bool, true, false, Option, None}
 use Rattle.servient_base.specs.Moves.{Becomes, Until, Makes, Refines}
 use Rattle.thing_ops.specs.declared.outcome.Outcome.{Outcome}
@@ -52,8 +52,8 @@ pub record DoesMove (move : Move) (old new : Layers) (before after : Outside) : 
   pub ready : IsReady new
   pub site : new.exposed.site ≡ old.exposed.site
 
--- What a request by HTTP did at a moment: to the directory, of which no handler knows and which emits nothing, or to the
--- Things; what they emit waits to be handed out.
+-- The effect of a request by HTTP at a moment: on the directory, of which no handler knows and which emits nothing, or
+-- on the Things; their emissions wait to be handed out.
 pub record MakesByHttp (old new : Kept) (d t : Entries) (now : ℕ) (q : PlainRequest) (o : Outcome) (before after : List Seen) : Type 0 where
   pub done : Done
   pub outcome : done.outcome ≡ o
@@ -82,8 +82,8 @@ OthersKeep c b d = (x : ℕ) → (x ≡ c → ⊥) → left_at x d ≤ left_at x
 abbrev pub DoesQuietly : Move → Layers → Layers → NetSeen → NetSeen → Type 0
 DoesQuietly move old new n m = (slots : List Seen) → Refines StandsFor Shows move old new (outside n slots) (outside m slots)
 
--- What stays when new values are delivered: the moment, the Things, the exchanges; and no connection has more left to
--- take.
+-- Delivering new values leaves this as it was: the moment, the Things, the exchanges; and no connection has more left
+-- to take.
 pub record OnlyDelivers (old new : Layers) : Type 0 where
   pub moment : new.moment ≡ old.moment
   pub site : new.exposed.site ≡ old.exposed.site
@@ -96,7 +96,7 @@ pub record SendsToWait (c : ℕ) (text : Option (List ℕ)) (moment : ℕ) (b d 
   pub leads : Leads (Wakes c text moment reply.bytes reply.closes) b d
   pub shows : NetShows n m (map did (acts_of_reply c reply))
 
--- What follows on an ask for the next poll of a round: the first event that is left was polled, and what it emits was
+-- The effect of an ask for the next poll of a round: the first event that is left was polled, and its emissions were
 -- delivered; or none is left, and nothing was done.
 pub data PollsOne (later : Round) (old new : Layers) (before after : Outside) : Bool → Round → Type 0 where
   polls : (round : Round) (p : Placed) → events_left round old.exposed.site ≡ p ∷ events_left later old.exposed.site

@@ -1,6 +1,6 @@
--- The links to the Things of a servient, which a GET of `/.well-known/core` by CoAP is answered with: one for each, in their
--- order, that says that the description of a Thing is there (WoT Discovery, section "CoRE Link Formats and CoRE Resource
--- Directory"; RFC 6690).
+-- The links to the Things of a servient, which a GET of `/.well-known/core` by CoAP is answered with: one for each, in
+-- their order, that says that the description of a Thing is there (WoT Discovery, section "CoRE Link Formats and CoRE
+-- Resource Directory"; RFC 6690).
 use Rattle.std.specs.Prelude.{◌≡◌, ◌≢◌, ℕ, List, [], ◌∷◌, ◌++◌, map, codes, true, Some, Result, Ok, Err}
 use Rattle.std.specs.List.{AllByRecursion}
 use Rattle.core_links.specs.declared.links.Param.{Param}
@@ -34,8 +34,8 @@ text_of_links segments = links_text (links_to segments)
 abbrev pub segments_of : Site → List (List ℕ)
 segments_of site = map (λ thing. thing.segment) site
 
--- Where each segment is plain, what is read of that text is just these links, a link to each Thing in order; or the reader is
--- out of memory.
+-- Where each segment is plain, reading that text gives just these links, a link to each Thing in order; or the reader
+-- is out of memory.
 abbrev pub LinksNameEachThing : Type 0
 LinksNameEachThing =
     (segments : List (List ℕ)) (r : Result (List Link) LinkFault) → AllByRecursion (λ s. is_plain_segment s ≡ true) segments

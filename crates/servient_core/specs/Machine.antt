@@ -1,9 +1,9 @@
 -- The servient as one abstract machine: what it does to the network and which calls it makes of device handlers, event
 -- by event. It knows no byte of a message, no exchange and no affordance: the layers that it names say what these mean,
 -- so that what a layer does may change without a change of this page. A move relates the state before it, the list of
--- what is seen of it in order, and the state after it; `Becomes`, `Stays`, `Then`, `Passing`, `Each` and `Until` put moves
--- together (servient_base/specs/Moves.antt). A run is the last definition: each event that comes is followed by its step.
--- A reader may go on after the imports, which only say where each word of a layer stands.
+-- what is seen of it in order, and the state after it; `Becomes`, `Stays`, `Then`, `Passing`, `Each` and `Until` put
+-- moves together (servient_base/specs/Moves.antt). A run is the last definition: each event that comes is followed by
+-- its step. A reader may go on after the imports, which only say where each word of a layer stands.
 
 use Rattle.std.specs.Prelude.{◌≡◌, ℕ, ◌<◌, ◌≤◌, ◌⊎◌, max, Option, Some, None, unwrap_or, List, [], ◌∷◌, map, length, Bool, true, false, if◌then◌else◌}
 use Rattle.servient_base.specs.Moves.{Becomes, Stays, Then, Passing, Each, Until}
@@ -39,13 +39,13 @@ use Rattle.servient_core.specs.Links.{segments_of, text_of_links}
 
 -- ---- the state
 
--- What is constant in a run, and so no part of the state: the Things, each affordance with the slot of its handler.
+-- The constants of a run, which are no part of the state: the Things, each affordance with the slot of its handler.
 abbrev pub Site : Type 0
 Site = Things
 
 -- The greatest moment so far in milliseconds; the connections with their whole streams and the requests that wait; the
--- CoAP server with its exchanges, its watchers and the id of its next message; what the Things don't leave to their
--- devices; the directory's entries, with times where it is known when the clock began.
+-- CoAP server with its exchanges, its observers and the id of its next message; the state of the Things that isn't
+-- their devices'; the directory's entries, with times where it is known when the clock began.
 pub record State : Type 0 where
   pub moment : ℕ
   pub http : Streams
@@ -100,15 +100,15 @@ RepliesToWait connection text = Passing (λ (reply : HttpReply). OnHttp (λ now.
 abbrev pub AnswersWait : ℕ → Move
 AnswersWait target before seen after = (connection : ℕ) × (oldest_for target before.http.waits ≡ Some connection) × RepliesToWait connection (last_of target before.thing.last) before seen after
 
--- the watchers of a target are to be notified
+-- the observers of a target are to be notified
 abbrev pub MarksWatchers : ℕ → Move
 MarksWatchers target = OnCoap (λ now before after. after ≡ with_emitted target before)
 
--- A target has a new value: all that wait for it get it, the oldest first, and its watchers are to be notified.
+-- A target has a new value: all that wait for it get it, the oldest first, and its observers are to be notified.
 abbrev pub Delivers : ℕ → Move
 Delivers target = Then (Until (AnswersWait target) (λ state. oldest_for target state.http.waits ≡ None)) (MarksWatchers target)
 
--- what was emitted is delivered, in order
+-- emissions are delivered, in order
 abbrev pub DeliversEach : List Emission → Move
 DeliversEach emissions = Each Delivers (map (λ emission. emission.target) emissions)
 
@@ -129,16 +129,16 @@ PerformsByHttp site request done before seen after =
 
 -- ---- CoAP (RFC 7252): a datagram is heard, and where it asks for something it is answered, once
 
--- what a request that says Observe may observe: the target of its path, if it is the path of one
+-- the target that a request with Observe may observe: that of its path, if it is the path of one
 abbrev pub observed_target : Site → ThingState → PlainAsk → Option ℕ
 observed_target site thing ask = elim ask.observe as (λ _. Option ℕ) [ None ↦ None | Some n ↦ target_of ask.request.path site thing.invocations ]
 
--- what was asked is answered by this outcome
+-- a request is answered by this outcome
 abbrev pub AnswersAsk : Site → Endpoint → PlainAsk → PendingReply → Done → Move
 AnswersAsk site from ask pending done before =
     Passing (λ bytes. OnCoap (λ now. Answers pending done.outcome (observed_target site before.thing ask) bytes)) (λ bytes. Does (act.Datagram from bytes ∷ [])) before
 
--- what follows on a datagram from this endpoint: a request is performed, answered, and its emissions are delivered
+-- the answer to a datagram from this endpoint: a request is performed, answered, and its emissions are delivered
 abbrev pub AnswersDatagram : Site → Endpoint → Heard → Move
 AnswersDatagram site from ignored before seen after = Stays before seen after
 AnswersDatagram site from (answered_at_once bytes) before seen after = Does (act.Datagram from bytes ∷ []) before seen after
@@ -157,7 +157,7 @@ HearsDatagram site from bytes before seen after =
 abbrev pub AnswersMessage : ℕ → Done → Move
 AnswersMessage connection done = Passing (λ reply. OnHttp (λ now. AnswersRequest connection done.outcome now reply)) (SendsIfAny connection)
 
--- what follows on what was taken from a connection
+-- the effect of taking this from a connection
 abbrev pub AnswersTaken : Site → ℕ → Taken → Move
 AnswersTaken site connection (asks request) before seen after =
     Passing (PerformsByHttp site request) (λ done. Then (AnswersMessage connection done) (DeliversEach done.emissions)) before seen after
@@ -185,7 +185,7 @@ HearsPiece site connection bytes = Then (OnHttp (Lengthened connection bytes)) (
 abbrev pub notice_bytes : Notice → ThingState → List ℕ
 notice_bytes notice thing = spelling (notification notice (unwrap_or (last_of notice.target thing.last) []))
 
--- what is to be sent next to a watcher is sent
+-- the next notification to an observer is sent
 abbrev pub SendsNotification : Move
 SendsNotification before =
     Passing (λ notice. OnCoap (λ now. SendsNext now (Some notice))) (λ notice. Does (act.Datagram notice.to (notice_bytes notice before.thing) ∷ [])) before
@@ -194,7 +194,7 @@ SendsNotification before =
 abbrev pub NothingIsDue : State → Type 0
 NothingIsDue state = (changed : Server) × SendsNext state.moment None state.coap changed
 
--- one after another, until nothing is to be sent; watchers that are given up are gone then
+-- one after another, until none is to be sent; observers that are given up are gone then
 abbrev pub SendsNotifications : Move
 SendsNotifications = Then (Until SendsNotification NothingIsDue) (OnCoap (λ now. SendsNext now None))
 
@@ -217,8 +217,8 @@ EndsEvent = Then SendsNotifications (Then (Until AnswersLateWait (λ state. olde
 abbrev pub PollsAndDelivers : Placed → Move
 PollsAndDelivers affordance = Passing (λ emissions. OnThing (PollsEvent affordance emissions)) DeliversEach
 
--- What follows when this comes, at the machine's moment. On a tick all event affordances are polled, one after another;
--- the end of the run does nothing more.
+-- The effect of this, when it comes, at the machine's moment. On a tick all event affordances are polled, one after
+-- another; the end of the run does nothing more.
 abbrev pub Follows : Site → What → List ℕ → Move
 Follows site (what.Opened connection) bytes before seen after = OnHttp (Opened connection) before seen after
 Follows site (what.Bytes connection size) bytes before seen after = HearsPiece site connection bytes before seen after

@@ -1,4 +1,4 @@
--- What an operation means doesn't depend on the binding by which it is asked for.
+-- The meaning of an operation doesn't depend on the binding by which it is asked for.
 use Rattle.std.specs.Prelude.{◌≡◌, ◌⊎◌, ℕ, List, [], Bool, true, false}
 use Rattle.servient_base.specs.Moves.{Then}
 use Rattle.coap_msg.specs.declared.endpoint.Endpoint.{Endpoint}
@@ -19,8 +19,8 @@ use Rattle.servient_core.specs.Trace.{Sighting, calls_in}
 use Rattle.servient_core.specs.Machine.{Site, State, Move, Performs, PerformsByHttp, AnswersAsk, AnswersDatagram, AnswersMessage, AnswersTaken, DeliversEach}
 
 -- A message that was read as a request: by CoAP from an endpoint, where it asks for this and has to be answered, or by
--- HTTP on a connection. A CoAP message for the links is none, since it is answered at once and asks for nothing: so what
--- follows isn't said of that path.
+-- HTTP on a connection. A CoAP message for the links is none, since it is answered at once and asks for nothing: so
+-- what follows isn't said of that path.
 pub data Message : Type 0 where
   by_coap : Endpoint → PlainAsk → PendingReply → Message
   by_http : ℕ → PlainRequest → Message
@@ -30,7 +30,7 @@ abbrev pub request_of : Message → PlainRequest
 request_of (by_coap from ask request) = ask.request
 request_of (by_http c q) = q
 
--- what the machine does with it
+-- the move of the machine on it
 abbrev pub Handled : Site → Message → Move
 Handled site (by_coap from ask request) = AnswersDatagram site from (asked ask request)
 Handled site (by_http c q) = AnswersTaken site c (asks q)
@@ -58,9 +58,9 @@ asks_directory m = is_of_directory (route_of (request_of m).path)
 abbrev pub IsWritten : Site → Message → Type 0
 IsWritten site m = (s t : State) (seen : List Sighting) → Handled site m s seen t → (done : Done) × ComesTo site m done s seen t
 
--- Two messages, of either binding, are read as the same request, which isn't one to the directory. Where the Things are in the same state, the handlers
--- give the same answers, and nothing is out of memory, they have the same calls, the same outcome and the same
--- emissions, and leave the Things in the same state.
+-- Two messages, of either binding, are read as the same request, which isn't one to the directory. Where the Things are
+-- in the same state, the handlers give the same answers, and nothing is out of memory, they have the same calls, the
+-- same outcome and the same emissions, and leave the Things in the same state.
 abbrev pub HaveOneMeaning : Site → Message → Message → Type 0
 HaveOneMeaning site m n =
     (answers : ℕ → Answer) (done other : Done) (s t r u : State) (seen shown : List Sighting)

@@ -1,4 +1,4 @@
--- What follows from the machine for duplicates of requests and for a table that is full.
+-- Consequences of the machine for duplicates of requests and for a table that is full.
 use Rattle.std.specs.Prelude.{◌≡◌, ◌≤◌, ℕ, true, None, List, [], ◌∷◌, length, Contains}
 use Rattle.coap_msg.specs.declared.constants.TheConstants.{LONGEST_DATAGRAM}
 use Rattle.coap_msg.specs.declared.endpoint.Endpoint.{Endpoint}

@@ -1,4 +1,4 @@
--- What holds of whole runs of the machine.
+-- Laws of whole runs of the machine.
 use Rattle.std.specs.Prelude.{◌≡◌, ◌<◌, ◌≤◌, ◌+◌, ◌-◌, ◌^◌, ◌⊎◌, max, ℕ, List, [], ◌∷◌, ◌++◌, length, Option, Some, slice_get}
 use Rattle.coap_msg.specs.declared.constants.TheConstants.{LONGEST_DATAGRAM}
 use Rattle.coap_exchange.specs.Admission.{Arrival}
@@ -53,7 +53,7 @@ ServingHasAHistory =
 -- A miss is an entry of the trace. So the polls that are left out and the operations that stop at a handler are at most
 -- as many as its count rose by: that is `stops_are_counted` of `servient_laws`.
 
--- how often the handler in a slot was out of memory, in what was seen
+-- the number of times that the handler in a slot was out of memory, in this trace
 abbrev pub misses_of : ℕ → List Sighting → ℕ
 misses_of slot seen = times slot (misses_in (calls_in seen))
 
@@ -61,7 +61,7 @@ misses_of slot seen = times slot (misses_in (calls_in seen))
 abbrev pub RoseExactly : ℕ → ℕ → ℕ → Type 0
 RoseExactly more before now = (now ≡ before + more) ⊎ (2 ^ 64 - 1 ≤ now)
 
--- Where serving was seen, each handler's count of misses rose by how often it was out of memory.
+-- Where serving was seen, each handler's count of misses rose by the number of times that it was out of memory.
 abbrev pub MissesAreCounted : Type 0
 MissesAreCounted =
     (site : Site) (budget slot : ℕ) (result : Served) (s t : State) (seen : List Sighting) (before now : Outside) (old new : Seen)

@@ -1,6 +1,6 @@
--- Serving in sections: one run of the machine over all its events, in which the handlers forget their turns now and then,
--- because memory ends and a run need not. The machine knows nothing of that. The outside shows the one run in sections,
--- each of them between two forgettings.
+-- Serving in sections: one run of the machine over all its events, in which the handlers forget their turns now and
+-- then, because memory ends and a run need not. The machine knows nothing of that. The outside shows the one run in
+-- sections, each of them between two forgettings.
 use Rattle.std.specs.Prelude.{◌≡◌, ◌≤◌, ◌<◌, ◌+◌, ◌⊎◌, ℕ, List, [], ◌∷◌, ◌++◌, length, map, Option, Some, None}
 use Rattle.std.specs.List.{filter_map}
 use Rattle.servient_base.specs.Moves.{Becomes, Stays, Then}
@@ -25,7 +25,7 @@ pub data Shown : Type 0 where
   -- the handlers forgot their turns
   forgot : Shown
 
--- what was seen, in order: the trace of the machine
+-- the part of this that was seen, in order: the trace of the machine
 abbrev pub seen_of : Shown → Option Sighting
 seen_of (saw sighting) = Some sighting
 seen_of forgot = None
@@ -50,7 +50,7 @@ pub data ShowsInSections : Outside → Outside → List Shown → Type 0 where
 
 -- ---- when the handlers forget
 
--- how many turns a call is
+-- the number of turns of a call
 abbrev pub turn_count : HandlerCall → ℕ
 turn_count (answered turn) = 1
 turn_count (missed slot) = 0

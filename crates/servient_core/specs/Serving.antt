@@ -1,4 +1,4 @@
--- What the calls of the servient promise: moves of the machine, which the network and the rack show.
+-- The promises of the calls of the servient: moves of the machine, which the network and the rack show.
 use Rattle.std.specs.Prelude.{◌≡◌, ◌≢◌, ◌≤◌, ◌<◌, ℕ, List, [], ◌∷◌, ◌++◌, length}
 use Rattle.servient_base.specs.Moves.{Becomes, Stays, Then}
 use Rattle.servient_outside.specs.declared.net.What.TheVariants as what
@@ -17,14 +17,14 @@ use Rattle.servient_core.specs.declared.servient.OpenFault.TheVariants.{Expose, 
 use Rattle.servient_core.specs.declared.serving.Served.{Served}
 use Rattle.servient_core.specs.declared.serving.Served.TheVariants as served
 
--- What the code of a servient keeps is `Layers` of src/layers.rt: a part for each layer, of which contracts
+-- The state that the code of a servient keeps is `Layers` of src/layers.rt: a part for each layer, of which contracts
 -- see each by its own view.
 
 -- the Things that it exposes
 abbrev pub site_of_parts : Layers → Site
 site_of_parts kept = kept.exposed.site
 
--- What is kept stands for a state: each part for that of its layer, and what is held of a
+-- The state that is kept stands for one of the machine: each part for that of its layer, and the kept part of a
 -- connection for its whole stream.
 pub record StandsFor (kept : Layers) (s : State) : Type 0 where
   pub moment : s.moment ≡ kept.moment
@@ -34,9 +34,9 @@ pub record StandsFor (kept : Layers) (s : State) : Type 0 where
   -- of the entries what stands, since what is over is taken away only at a request
   pub directory : standing_at s.moment s.directory ≡ standing_at kept.moment kept.directory
 
--- Between two events: no emission waits to be handed out, the exchanges are at no later moment, the moment is one that a
--- clock may give, and each connection has room for another piece. It is an invariant of `Servient`, so that `step` and
--- `serve` ask only that the rack fits.
+-- Between two events: no emission waits to be handed out, the exchanges are at no later moment, the moment is one that
+-- a clock may give, and each connection has room for another piece. It is an invariant of `Servient`, so that `step`
+-- and `serve` ask only that the rack fits.
 pub record IsReady (kept : Layers) : Type 0 where
   pub pending : kept.exposed.pending ≡ []
   pub moment : kept.coap.exchanges.moment ≤ kept.moment
@@ -53,8 +53,8 @@ abbrev pub HasNoStop : List EventWithBytes → Type 0
 HasNoStop [] = Unit {0}
 HasNoStop (e ∷ es) = (e.event.what ≢ what.Stop) × HasNoStop es
 
--- How many events were taken, of at most budget, and where a Stop is among them: at the end and nowhere else where
--- serving stopped, and nowhere where it failed, below the budget, or spent exactly that.
+-- These events were taken, of at most budget. Where serving stopped, the last is a Stop and no other; where it failed,
+-- none is, and they are fewer than budget; where it spent the budget, none is, and they are exactly that many.
 abbrev pub AreTaken : ℕ → List EventWithBytes → Served → Type 0
 AreTaken budget took served.Stopped =
     (prefix : List EventWithBytes) × (last : EventWithBytes)

@@ -1,5 +1,5 @@
--- What is seen of the servient from outside: what happens at the network, and the calls of device handlers, in one
--- list. With events and acts in two, a server could take two events before it answers the first.
+-- The trace of the servient, as seen from outside: the happenings at the network, and the calls of device handlers, in
+-- one list. With events and acts in two, a server could take two events before it answers the first.
 use Rattle.std.specs.Prelude.{List, Option, Some, None}
 use Rattle.std.specs.List.{filter_map}
 use Rattle.thing_handler.specs.Handler.{Seen}
@@ -11,8 +11,8 @@ pub data Sighting : Type 0 where
   at_network : Happening → Sighting
   at_handler : HandlerCall → Sighting
 
--- What happened at the network, in order: std's `filter_map` of what one entry shows, which has its one law on traces
--- one after another.
+-- The happenings at the network, in order: std's `filter_map` of the part that one entry shows, which has its one law
+-- on traces one after another.
 abbrev pub happening_in : Sighting → Option Happening
 happening_in (at_network h) = Some h
 happening_in (at_handler call) = None
@@ -28,7 +28,7 @@ call_in (at_handler call) = Some call
 abbrev pub calls_in : List Sighting → List HandlerCall
 calls_in = filter_map call_in
 
--- What is known of the outside at one time: of the network, and of each handler in the order of their slots.
+-- The outside at one time: the network, and each handler in the order of their slots.
 pub record Outside : Type 0 where
   pub net : NetSeen
   pub slots : List Seen

@@ -1,4 +1,4 @@
-//! How much a servient has room for.
+//! The capacities of a servient.
 
-/// How many observers there may be.
+/// The most observers that there may be.
 pub const MOST_WATCHERS: u32 = 1024;

@@ -1,5 +1,5 @@
-//! What a servient does on its connections (RFC 9112): the messages of each stream are taken and answered, one after
-//! another, and requests that wait are replied to.
+//! The connections of a servient (RFC 9112): the messages of each stream are taken and answered, one after another, and
+//! requests that wait are replied to.
 
 ghost use Rattle.std.specs.Prelude.{◌≡◌, ◌≤◌, ◌<◌, ◌++◌, map, length, option_map, true, false, IfSome, IsSome};
 ghost use Rattle.servient_base.specs.Moves.{Refines};
@@ -21,8 +21,8 @@ use std::alloc::Global;
 use thing_handler::Handlers;
 use thing_ops::Outcome;
 
-/// Room for what a message holds and for the reply to it, which is taken once and used for all, because one message is
-/// handled at a time.
+/// Room for the parts of a message and for the reply to it, which is taken once and used for all, because one message
+/// is handled at a time.
 #[derive(Drop)]
 pub struct Rooms {
     /// The query and the body of a message of HTTP, and the body of a request by CoAP that came in blocks.
@@ -95,7 +95,7 @@ impl Layers {
         while self.take(net, rack, c, rooms) {}
     }
 
-    /// Takes what is next on a connection and handles it; false: nothing can be taken.
+    /// Takes the next message of a connection and handles it; false: none can be taken.
     fn take<N: Net, R: Handlers>(
         &mut self,
         net: &mut N,

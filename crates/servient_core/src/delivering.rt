@@ -1,5 +1,5 @@
-//! New values: who waits for one gets it, and watchers are to be notified. Event affordances are polled here, because what
-//! each of them emits is delivered before the next is polled.
+//! New values: connections that wait for one get it, and observers are to be notified. Event affordances are polled
+//! here, because the emissions of each are delivered before the next is polled.
 
 ghost use Rattle.std.specs.Prelude.{◌≡◌, []};
 ghost use Rattle.servient_base.specs.Moves.{Each};
@@ -17,7 +17,7 @@ use thing_core::Round;
 use thing_handler::Handlers;
 
 impl Layers {
-    /// Delivers what was emitted, in order: to those that wait for its target, and to its watchers.
+    /// Delivers the emissions, in order: to the connections that wait for their target, and to its observers.
     pub fn deliver<N: Net>(&mut self, net: &mut N, room: &mut ReplyRoom)
         ensures delivered { DoesQuietly (Each Delivers self.old.exposed.pending) self.old self.new (N.seen net.old) (N.seen net.new) }
         ensures pending { self.new.exposed.pending ≡ [] }
@@ -38,7 +38,7 @@ impl Layers {
         self.coap.emit(target);
     }
 
-    /// Those that wait for a target get its last value, the oldest first.
+    /// The connections that wait for a target get its last value, the oldest first.
     fn answer_waits<N: Net>(&mut self, net: &mut N, target: u32, room: &mut ReplyRoom)
         ensures answered { DoesQuietly (AnswersWaits target) self.old self.new (N.seen net.old) (N.seen net.new) }
         ensures rest { self.new ≡ record self.old { http = self.new.http } }
@@ -61,7 +61,7 @@ impl Layers {
         while self.poll_next(net, rack, room, &mut round) {}
     }
 
-    /// Polls the next event affordance of a round, and delivers what it emits. Whether one was left.
+    /// Polls the next event affordance of a round, and delivers its emissions. Whether one was left.
     fn poll_next<N: Net, R: Handlers>(
         &mut self,
         net: &mut N,

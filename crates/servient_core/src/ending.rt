@@ -16,7 +16,7 @@ use coap_msg::LONGEST_MESSAGE;
 use coap_observe::Notice;
 
 impl Layers {
-    /// Does what ends each event.
+    /// Does the last part of each event.
     pub fn end_event<N: Net>(&mut self, net: &mut N, room: &mut ReplyRoom)
         requires { IsReady self.old }
         ensures ends { DoesQuietly EndsEvent self.old self.new (N.seen net.old) (N.seen net.new) }
@@ -28,7 +28,7 @@ impl Layers {
         self.close_idle(net);
     }
 
-    /// Sends what is to be sent to watchers.
+    /// Sends the notifications that are due to observers.
     fn send_notifications<N: Net>(&mut self, net: &mut N)
         ensures sent { DoesQuietly SendsNotifications self.old self.new (N.seen net.old) (N.seen net.new) }
         ensures rest { self.new ≡ record self.old { coap = self.new.coap } }
@@ -44,6 +44,7 @@ impl Layers {
         requires { IsSendable notice.now }
         ensures { NetShows (N.seen net.old) (N.seen net.new) (did (act.Datagram notice.now.to (notice_bytes notice.now self.now.exposed.state)) ∷ []) }
     {
+        // The room is on the stack, so that a notification takes no memory.
         let mut out = [0u8; LONGEST_MESSAGE];
         let value = match self.exposed.last(notice.target) {
             Some(value) => value,
@@ -53,7 +54,7 @@ impl Layers {
         net.datagram(notice.to, &out[..size]);
     }
 
-    /// Tells those that waited too long that nothing came, the oldest first.
+    /// Tells the connections that waited too long that nothing came, the oldest first.
     fn answer_late_waits<N: Net>(&mut self, net: &mut N, room: &mut ReplyRoom)
         ensures answered { DoesQuietly AnswersLateWaits self.old self.new (N.seen net.old) (N.seen net.new) }
         ensures rest { self.new ≡ record self.old { http = self.new.http } }

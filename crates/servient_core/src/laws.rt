@@ -1,4 +1,4 @@
-//! What follows from the machine, for every network and rack: contracts of functions that no code needs to call.
+//! Consequences of the machine, for every network and rack: contracts of functions that no code needs to call.
 
 ghost use Rattle.std.specs.Prelude.{◌≡◌, ◌↔◌, ℕ, List};
 ghost use Rattle.coap_msg.specs.declared.endpoint.Endpoint.{Endpoint};
@@ -48,16 +48,16 @@ pub fn full_table_acts_on_nothing()
     ensures { FullTableActsOnNothing }
 {}
 
-/// By either binding an operation has one meaning: two messages that are read as the same request, which isn't one to the
-/// directory, where the Things are in the same state, the handlers give the same answers and nothing is out of memory,
-/// have the same calls, outcome and emissions, and what is written is that outcome.
+/// By either binding an operation has one meaning: two messages that are read as the same request, which isn't one to
+/// the directory, where the Things are in the same state, the handlers give the same answers and nothing is out of
+/// memory, have the same calls, outcome and emissions, and that outcome is written.
 pub fn one_meaning()
     ensures written { (site : Site) → (m : Message) → IsWritten site m }
     ensures same { (site : Site) → (m n : Message) → HaveOneMeaning site m n }
 {}
 
-/// The directory is reached by HTTP alone, and by its requests no handler is: what comes by HTTP changes the directory
-/// and nothing of the Things, and what comes by CoAP finds nothing at its paths.
+/// The directory is reached by HTTP alone, and by its requests no handler is: a request to it by HTTP changes the
+/// directory and nothing of the Things, and a request by CoAP finds nothing at its paths.
 pub fn directory_is_apart()
     ensures http { (site : Site) → (c : ℕ) → (q : PlainRequest) → AsksDirectoryAlone site c q }
     ensures coap { (site : Site) → (from : Endpoint) → (ask : PlainAsk) → (request : PendingReply) → FindsNoDirectory site from ask request }
@@ -70,13 +70,14 @@ pub fn each_run_has_a_history()
     ensures serving { ServingHasAHistory }
 {}
 
-/// The text of the links to Things whose segments are plain, read again, has a link to each Thing, in order and no other
-/// (RFC 6690).
+/// The text of the links to Things whose segments are plain, read again, has a link to each Thing, in order and no
+/// other (RFC 6690).
 pub fn links_name_each_thing()
     ensures { LinksNameEachThing }
 {}
 
-/// Each handler's count of misses rises by how often it was out of memory, unless it is at its last value.
+/// Each handler's count of misses rises by the number of times that it was out of memory, unless it is at its last
+/// value.
 pub fn misses_are_counted()
     ensures { MissesAreCounted }
 {}

@@ -1,4 +1,4 @@
-//! What a servient keeps, a part for each layer, and the moves that it makes.
+//! The state of a servient, a part for each layer, and the moves that it makes.
 
 ghost use Rattle.std.specs.Prelude.{◌≡◌, length};
 ghost use Rattle.thing_site.specs.Fits.{Fits};
@@ -18,23 +18,23 @@ use http_bind::HttpBind;
 use thing_core::Exposed;
 use thing_handler::Handlers;
 
-/// What a servient keeps in a run. `specs/Serving.antt` says which states of the machine it stands for.
+/// The state of a servient in a run. `specs/Serving.antt` says which states of the machine it stands for.
 #[derive(Drop)]
 pub struct Layers {
     /// The greatest moment so far, in milliseconds.
     pub moment: u64,
-    /// The Things, and what they don't leave to their devices.
+    /// The Things, and the part of their state that isn't their devices'.
     pub exposed: Exposed,
     /// The directory.
     pub directory: DirectoryServer,
-    /// The CoAP server with its exchanges and watchers.
+    /// The CoAP server with its exchanges and observers.
     pub coap: CoapBind,
     /// The connections of the HTTP server, with the requests that wait.
     pub http: HttpBind,
 }
 
 impl Layers {
-    /// Does what follows on an event, at the machine's moment.
+    /// Makes the move of an event, at the machine's moment.
     pub fn follow<N: Net, R: Handlers>(
         &mut self,
         net: &mut N,
@@ -60,7 +60,7 @@ impl Layers {
         }
     }
 
-    /// Does what a datagram asks.
+    /// Answers a datagram.
     pub fn datagram<N: Net, R: Handlers>(
         &mut self,
         net: &mut N,
@@ -77,6 +77,7 @@ impl Layers {
         if bytes.len() > LONGEST_DATAGRAM {
             return;
         }
+        // The room is on the stack, so that a reply takes no memory.
         let mut out = [0u8; LONGEST_MESSAGE];
         let room = &mut rooms.message;
         match self.coap.datagram(from, bytes, self.moment, &mut out, room) {

@@ -1,9 +1,9 @@
-//! The servient: what it does with each event of the network, by the machine of `specs/Machine.antt`.
+//! The servient: its move on each event of the network, by the machine of `specs/Machine.antt`.
 //!
 //! `Servient::step` makes one step of that machine, and `serve` a run. Both say so in one clause: for every state that
 //! the servient stood for before, it stands afterwards for one to which the machine's move leads, and the network and
-//! the rack show what is seen of that move. Each function below them has that one clause too, in place of clauses on
-//! acts, turns and state that a reader would put together. The crate sees the handlers as `Handlers` and the network as
+//! the rack show the trace of that move. Each function below them has that one clause too, in place of clauses on acts,
+//! turns and state that a reader would put together. The crate sees the handlers as `Handlers` and the network as
 //! `Net`, and knows no socket and no clock.
 //!
 //! ```

@@ -17,7 +17,7 @@ use thing_core::Exposed;
 use thing_handler::Handlers;
 use thing_ops::{Outcome, Request, route};
 
-/// Does what a request by HTTP asks, at the machine's moment. What it emits waits to be delivered.
+/// Performs a request by HTTP, at the machine's moment. Its emissions wait to be delivered.
 pub fn perform_by_http<R: Handlers>(
     exposed: &mut Exposed,
     directory: &mut DirectoryServer,
@@ -36,19 +36,19 @@ pub fn perform_by_http<R: Handlers>(
     perform(exposed, rack, request)
 }
 
-/// Does what a request asks. What it emits waits to be delivered.
+/// Performs a request. Its emissions wait to be delivered.
 pub fn perform<R: Handlers>(exposed: &mut Exposed, rack: &mut R, request: &Request<'_>) -> Outcome
     requires pending { exposed.old.pending ≡ [] }
     requires fits { Fits exposed.old.site (R.slots rack.old) }
     ensures performed { MakesAct exposed.old exposed.new (plain_request request.now) result (R.slots rack.old) (R.slots rack.new) }
     ensures sendable { All (λ segment. length segment ≤ 255) request.now.path → IsSendable result }
 {
-    // For the proof: the number that was read has 64 bits.
+    // Read for the proof, since a number that was read has 64 bits.
     let _next = exposed.next_invocation();
     exposed.perform(rack, request)
 }
 
-/// What a request may observe: the target of its path, where it says Observe.
+/// The target that a request may observe: that of its path, where it says Observe.
 pub fn observed_by(exposed: &Exposed, ask: &CoapAsk<'_>) -> Option<u32>
     ensures { result ≡ observed_target exposed.now.site exposed.now.state (plain_ask ask.now) }
 {

@@ -25,7 +25,7 @@ pub struct RunBounds {
     pub turns: u64,
 }
 
-/// How serving in sections ended.
+/// The end of serving in sections.
 #[derive(Clone, Copy, Debug, PartialEq, Eq)]
 pub enum SectionsEnd {
     /// A Stop came; it was the last event that was taken.
@@ -71,8 +71,8 @@ pub fn serve_in_sections<N: Net, R: Handlers>(
     SectionsEnd::Spent
 }
 
-/// Has the handlers forget their turns, once the run has `due` of them. Returns at how many they are to forget again. It is
-/// a function of its own, because both ways go on to one call.
+/// Has the handlers forget their turns, once the run has `due` of them. Returns the number of turns at which they are
+/// to forget again. It is a function of its own, because both ways go on to one call.
 fn forget_if_due<R: Handlers>(rack: &mut R, turns: u64, due: u64) -> u64
     requires { turns ≤ most_turns }
     ensures { ForgetsIfDue turns due result (R.slots rack.old) (R.slots rack.new) }

@@ -1,4 +1,4 @@
-//! The servient of a plan, and what one event does.
+//! The servient of a plan, and its step on one event.
 
 ghost use Rattle.std.specs.Prelude.{◌≡◌, ◌≤◌, ◌<◌, [], true, length, IfOk, IfErr, IfSome, OnOk};
 ghost use Rattle.std.specs.List.{AllByRecursion};
@@ -36,7 +36,7 @@ use thing_handler::Handlers;
 use thiserror::Error;
 use wot_terms::{Thing, Things};
 
-/// The servient of a plan. Contracts see what it keeps (`Layers`), and which states of the machine they stand for
+/// The servient of a plan. Contracts see its state (`Layers`), and which states of the machine it stands for
 /// (`StandsFor` of `specs/Serving.antt`).
 #[derive(Drop)]
 pub struct Servient {
@@ -62,7 +62,7 @@ impl Model for Servient {
     ghost invariant = { λ s. IsReady s.layers };
 }
 
-/// Why a servient can't be made.
+/// The cause for which a servient can't be made.
 #[derive(Debug, Drop, Error)]
 pub enum OpenFault {
     /// The plan and its Things don't fit the rack.
@@ -144,7 +144,7 @@ impl Servient {
         self.layers.exposed.accounts().calls
     }
 
-    /// Does what one event asks. Where it is out of memory, that shows as a reply or as a poll that is left out.
+    /// Makes the step of one event. Where it is out of memory, that shows as a reply or as a poll that is left out.
     pub fn step<N: Net, R: Handlers>(
         &mut self,
         net: &mut N,

@@ -12,7 +12,7 @@ use thing_handler::Handlers;
 /// Room for the bytes of one event.
 pub(crate) const BUFFER_BYTES: usize = 4096;
 
-/// How serving ended.
+/// The end of serving.
 #[derive(Clone, Copy, Debug, PartialEq, Eq)]
 pub enum Served {
     /// A Stop came; it was the last event that was taken.

@@ -3,14 +3,14 @@ use Rattle.std.proofs.Common.{◌≡◌, ℕ, ◌-◌, List, ◌++◌, Option, S
 use Rattle.std.proofs.lemmas.List.{take_rest, take-append-drop}
 use Rattle.std.specs.Io.KnownBytes.{Appends, Consumes}
 
--- what two turns consume, one after the other
+-- the bytes that two turns consume, one after the other
 pub Consumes-append : (first second third : Option (List ℕ)) (xs ys : List ℕ) → Consumes first second xs → Consumes second third ys → Consumes first third (xs ++ ys)
 Consumes-append None second third xs ys a b = tt
 Consumes-append (Some p) None third xs ys a b = absurd a
 Consumes-append (Some p) (Some q) None xs ys a b = absurd b
 Consumes-append (Some p) (Some q) (Some r) xs ys a b = a ∙ ap (λ (zs : List ℕ). xs ++ zs) b ∙ sym (append_assoc xs ys r)
 
--- what two turns write, one after the other
+-- the bytes that two turns write, one after the other
 pub Appends-append : (first second third : Option (List ℕ)) (xs ys : List ℕ) → Appends first second xs → Appends second third ys → Appends first third (xs ++ ys)
 Appends-append None second third xs ys a b = tt
 Appends-append (Some p) None third xs ys a b = absurd a

@@ -41,7 +41,7 @@ settles_one c first before after settles changes = λ other.
 
 -- ---- events
 
--- what some turns give is what an event names
+-- the event that some turns give is the one that is named
 pub comes_named : (before after : Numbers) (came : Option What) → Comes before came after → Names before.list.items came after.list.items
 comes_named before after None comes = settles_twice before.list.items comes.0.list.items after.list.items comes.1 comes.2
 comes_named before after (Some (what.Opened c)) comes = (comes.0.list.items, comes.1, comes.2)

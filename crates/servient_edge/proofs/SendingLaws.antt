@@ -3,7 +3,7 @@ use Rattle.std.proofs.Common.{◌≡◌, ◌∙◌, ◌-◌, ℕ, zero, suc, Lis
 use Rattle.std.specs.Io.KnownBytes.{Appends}
 use Rattle.servient_edge.specs.Sending.{SentOn}
 
--- what comes after n bytes of two pieces
+-- the bytes after n of two pieces
 pub drop_both : (n : ℕ) (xs ys : List ℕ) → drop n (xs ++ ys) ≡ drop n xs ++ drop (n - length xs) ys
 drop_both zero xs ys =
     let none : 0 ≡ 0 - length xs = omega arith in

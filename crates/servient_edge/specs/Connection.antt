@@ -1,10 +1,10 @@
--- What a connection gives and keeps.
+-- The bytes that a connection gives and keeps.
 use Rattle.std.specs.Prelude.{◌≡◌, ◌≤◌, ℕ, Bool, true, false, List, [], ◌++◌, is_some, if◌then◌else◌}
 use Rattle.servient_edge.specs.declared.connection.Connection.{Connection}
 use Rattle.servient_edge.specs.declared.turns.Took.{Took}
 use Rattle.servient_edge.specs.declared.turns.Took.TheVariants as took
 
--- What a turn may give of a connection that is closed, or isn't: bytes of one that is open, some and no more than a
+-- A turn may give this of a connection that is closed, or isn't: bytes of one that is open, some and no more than a
 -- buffer takes, and its end; of one that is closed nothing but that it is over.
 abbrev pub TookAt : Bool → Took → Type 0
 TookAt closed (took.Bytes count) = (closed ≡ false) × (1 ≤ count) × (count ≤ 4096)
@@ -25,11 +25,11 @@ IsEnd took.Over = Unit {0}
 abbrev pub KeepsRest : List ℕ → List ℕ → List ℕ → Type 0
 KeepsRest kept message kept_after = (front : List ℕ) × (kept ++ message ≡ front ++ kept_after)
 
--- what is sent of a message: nothing where the connection is closed
+-- the bytes that are sent of a message: none where the connection is closed
 abbrev pub sent_by : Connection → List ℕ → List ℕ
 sent_by connection message = if is_some connection.closed then [] else message
 
--- What a turn leaves of what is kept, where the connection goes on: a front has gone, and the rest is kept.
+-- A turn leaves this of the bytes that are kept, where the connection goes on: a front has gone, and the rest is kept.
 abbrev pub Leaves : List ℕ → Took → List ℕ → Type 0
 Leaves before (took.Bytes count) after = KeepsRest before [] after
 Leaves before took.Unwanted after = KeepsRest before [] after

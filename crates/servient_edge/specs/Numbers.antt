@@ -1,4 +1,4 @@
--- What the numbers of connections stand for, and which of them an event names.
+-- The standings of the numbers of connections, and the number that an event names.
 use Rattle.std.specs.Prelude.{◌≡◌, ◌≤◌, ◌⊎◌, ℕ, List, Option, Some, None, is_some, slice_index_or, slice_set, if◌then◌else◌}
 use Rattle.servient_outside.specs.declared.net.What.{What}
 use Rattle.servient_outside.specs.declared.net.What.TheVariants as what
@@ -9,7 +9,7 @@ use Rattle.servient_edge.specs.declared.turns.Took.{Took}
 use Rattle.servient_edge.specs.declared.turns.Took.TheVariants as took
 use Rattle.servient_edge.specs.Connection.{KeepsRest, Leaves, sent_by}
 
--- what a number stands for: nothing, a connection that is open, one that is closed and not over yet, or one that was
+-- a number stands for this: nothing, a connection that is open, one that is closed and not over yet, or one that was
 -- given up and whose end is still to be given
 pub data Standing : Type 0 where
   vacant : Standing
@@ -22,24 +22,25 @@ standing number.Free = vacant
 standing (number.Used connection) = if is_some connection.closed then closing else connected
 standing number.GivenUp = given_up
 
--- what has this number
+-- the holder of this number
 abbrev pub number_at : ℕ → Numbers → Number
 number_at c n = slice_index_or n.list.items c number.Free
 
--- what this number stands for
+-- the standing of this number
 abbrev pub standing_at : ℕ → Numbers → Standing
 standing_at c n = standing (number_at c n)
 
--- what has this number may have changed, and what has another is the same
+-- the holder of this number may have changed, and that of another is the same
 abbrev pub OthersStay : ℕ → Numbers → Numbers → Type 0
 OthersStay c before after = after.list.items ≡ slice_set before.list.items c (number_at c after)
 
--- what this number stands for changes so, and what has another is the same
+-- the standing of this number changes so, and the holder of another is the same
 abbrev pub ChangesAt : (Standing → Standing → Type 0) → ℕ → Numbers → Numbers → Type 0
 ChangesAt R c before after = R (standing_at c before) (standing_at c after) × OthersStay c before after
 
--- What a turn takes of a number: bytes of an open connection, some and no more than a buffer takes; the end of an open
--- one, or of one that was given up; of a closed one nothing but that it is over. What has ended or is over is vacant.
+-- A turn takes this of a number: bytes of an open connection, some and no more than a buffer takes; the end of an open
+-- one, or of one that was given up; of a closed one nothing but that it is over. One that has ended or is over is
+-- vacant.
 abbrev pub TakesFrom : Standing → Took → Standing → Type 0
 TakesFrom before (took.Bytes count) after = (before ≡ connected) × (after ≡ connected) × (1 ≤ count) × (count ≤ 4096)
 TakesFrom before took.Unwanted after = (before ≡ closing) × (after ≡ closing)
@@ -63,8 +64,8 @@ Settled before after = (after ≡ before) ⊎ ((before ≡ closing) × (after �
 abbrev pub Settles : Numbers → Numbers → Type 0
 Settles before after = (c : ℕ) → Settled (standing_at c before) (standing_at c after)
 
--- Which number a turn names: one that was vacant, and is open now; one that is open, of which bytes came; one that was
--- open or given up, and is vacant now. What has another number is the same.
+-- A turn names a number: one that was vacant, and is open now; one that is open, of which bytes came; one that was open
+-- or given up, and is vacant now. The holder of another number is the same.
 abbrev pub Gives : Numbers → Option What → Numbers → Type 0
 Gives before None after = Settles before after
 Gives before (Some (what.Opened c)) after = ChangesAt (λ old new. (old ≡ vacant) × (new ≡ connected)) c before after
@@ -74,11 +75,11 @@ Gives before (Some (what.Datagram from count)) after = after ≡ before
 Gives before (Some what.Tick) after = ⊥
 Gives before (Some what.Stop) after = ⊥
 
--- which number an event names that comes of some turns, all but the last of which gave none
+-- the number that an event names that comes of some turns, all but the last of which gave none
 abbrev pub Comes : Numbers → Option What → Numbers → Type 0
 Comes before came after = (settled : Numbers) × Settles before settled × Gives settled came after
 
--- what a turn leaves of what is kept, where a connection goes on: what the socket didn't take
+-- a turn leaves this of the bytes that are kept, where a connection goes on: those that the socket didn't take
 abbrev pub LeavesAt : Number → Took → Number → Type 0
 LeavesAt (number.Used before) result (number.Used after) = Leaves before.kept result after.kept
 LeavesAt (number.Used before) result number.Free = Unit {0}
@@ -86,7 +87,8 @@ LeavesAt (number.Used before) result number.GivenUp = Unit {0}
 LeavesAt number.Free result after = Unit {0}
 LeavesAt number.GivenUp result after = Unit {0}
 
--- what sending leaves, where a connection goes on: of what was kept, and then the message, what the socket didn't take
+-- sending leaves this, where a connection goes on: those of the kept bytes, and then of the message, that the socket
+-- didn't take
 abbrev pub SendsAt : Number → List ℕ → Number → Type 0
 SendsAt (number.Used before) message (number.Used after) = KeepsRest before.kept (sent_by before message) after.kept
 SendsAt (number.Used before) message number.Free = Unit {0}

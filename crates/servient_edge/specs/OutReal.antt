@@ -1,4 +1,4 @@
--- What is seen of an output over a writer.
+-- The view of an output over a writer.
 use Rattle.std.specs.Prelude.{ℕ, None}
 use Rattle.servient_outside.specs.Out.{OutSeen}
 use Rattle.servient_edge.specs.declared.out_real.OutReal.{OutReal}
@@ -7,7 +7,7 @@ use Rattle.servient_edge.specs.declared.out_real.OutReal.{OutReal}
 abbrev pub writer_of : {W : Type 0} → OutReal W → W
 writer_of o = o.writer
 
--- how often a write failed
+-- the number of writes that failed
 abbrev pub fault_count : {W : Type 0} → OutReal W → ℕ
 fault_count o = o.faults
 

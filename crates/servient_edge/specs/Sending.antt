@@ -1,4 +1,4 @@
--- What is sent in order to what takes bytes only as far as it has room.
+-- Sending in order to a taker, which takes bytes only as far as it has room.
 use Rattle.std.specs.Prelude.{◌≡◌, ℕ, List, ◌++◌, Option}
 use Rattle.std.specs.Io.KnownBytes.{Appends}
 

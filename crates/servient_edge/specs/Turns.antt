@@ -1,4 +1,4 @@
--- Whose turn is next. Who waits is a list with true at its place.
+-- The next turn. The places that wait are a list with true at each of them.
 use Rattle.std.specs.Prelude.{ℕ, Bool, false, List, Option, Some, None, ◌+◌, drop, slice_set, option_map, is_none}
 use Rattle.std.specs.List.{position}
 
@@ -15,12 +15,12 @@ either None b = b
 abbrev pub next_of : ℕ → List Bool → Option ℕ
 next_of last waiting = either (option_map (λ step. last + 1 + step) (first_of (drop (last + 1) waiting))) (first_of waiting)
 
--- whose turn it is waits no longer, and the others do as before
+-- the place whose turn it is waits no longer, and the others do as before
 abbrev pub without : Option ℕ → List Bool → List Bool
 without (Some place) waiting = slice_set waiting place false
 without None waiting = waiting
 
--- who had the last turn then
+-- the place that had the last turn then
 abbrev pub last_after : Option ℕ → ℕ → ℕ
 last_after (Some place) last = place
 last_after None last = last

@@ -13,7 +13,7 @@ const ASKS: u32 = 16;
 // A protocol error of one connection (EPROTO), for which there is no `ErrorKind`.
 const PROTOCOL_ERROR: i32 = 71;
 
-/// What the listener gave.
+/// The answer of the listener.
 #[derive(Drop)]
 pub enum Accepted {
     Stream(TcpStream),
@@ -25,8 +25,8 @@ pub enum Accepted {
 }
 
 /// The next connection, set up to be reported under a number. One that failed before it was taken, or that can't be set
-/// up, is a fault, and the next is taken. Any other error, as too many open files, is a fault that ends the turn: it
-/// would be the same for the next connection.
+/// up, is a fault, and the next is taken. Any other error, as too many open files, is a fault that ends the turn, since
+/// it would be the same for the next connection.
 pub fn accept(
     listener: &TcpListener,
     registry: &Registry,

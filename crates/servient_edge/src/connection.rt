@@ -1,4 +1,4 @@
-//! One connection: its socket, and what the socket hasn't taken yet.
+//! One connection: its socket, and the bytes that the socket hasn't taken yet.
 
 ghost use Rattle.std.specs.Prelude.{◌≡◌, ◌≤◌, ◌++◌, [], true, false, None, IsSome, IfOk, OnErr, is_some, length};
 ghost use Rattle.servient_edge.specs.Connection.{TookAt, IsEnd, KeepsRest, Leaves, sent_by};
@@ -11,10 +11,10 @@ use std::alloc::Global;
 use std::io::{self, ErrorKind, Read};
 use std::net::Shutdown;
 
-// For how many milliseconds a closed connection waits for its peer, once all is sent (RFC 9112, section 9.6).
+// The milliseconds that a closed connection waits for its peer, once all is sent (RFC 9112, section 9.6).
 const LINGER: u64 = 2000;
 
-// For how many milliseconds a closed connection waits for its peer to take something of what is kept.
+// The milliseconds that a closed connection waits for its peer to take something of what is kept.
 const STALLED: u64 = 30_000;
 
 /// A connection.
@@ -22,7 +22,7 @@ const STALLED: u64 = 30_000;
 pub struct Connection {
     stream: TcpStream,
     kept: Kept,
-    // Where the connection is closed: when it was, or when the socket last took bytes since.
+    // The moment at which the connection was closed, or at which the socket last took bytes since.
     closed: Option<u64>,
 }
 
@@ -83,7 +83,7 @@ impl Connection {
         }
     }
 
-    /// What a read of n bytes means; 0 is the end of what the peer sends.
+    /// The result of a read of n bytes; 0 is the end of what the peer sends.
     fn took(&self, count: usize) -> Took
         requires { count ≤ 4096 }
         ensures { TookAt (is_some self.now.closed) result }
@@ -101,7 +101,7 @@ impl Connection {
         }
     }
 
-    /// What the end of the connection means.
+    /// The result of the end of the connection.
     fn gone(&self) -> Took
         ensures took { TookAt (is_some self.now.closed) result }
         ensures end { IsEnd result }

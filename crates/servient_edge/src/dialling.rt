@@ -8,7 +8,7 @@ use std::net::{Net, SocketAddr};
 use std::rt::Clock;
 use std::time::{Duration, Instant};
 
-// How many seconds a peer has to answer.
+// The number of seconds that a peer has to answer.
 const LIMIT: u64 = 10;
 
 // The system may return early, but not without end.

@@ -1,4 +1,4 @@
-//! The files of the machine. What they hold isn't recorded, nor which reads were made.
+//! The files of the machine. Neither their content is recorded nor the reads that were made.
 
 ghost use Rattle.std.specs.Prelude.{◌≡◌, ◌≢◌, ◌≤◌, ◌<◌, ◌+◌, ◌++◌, ◌↔◌, ◌⊎◌, [], length, IfErr, IfOk, IfSome, IsErrAnd, OnOk};
 ghost use Rattle.std.specs.IoError.{error_kind};
@@ -11,7 +11,7 @@ use wot_json::Bytes;
 
 const BUFFER_BYTES: usize = 4096;
 
-/// The files of the machine. It counts what fails.
+/// The files of the machine. It counts failures.
 #[derive(Drop)]
 pub struct FilesReal<R: rt::Files + Drop> {
     rt: R,
@@ -29,9 +29,8 @@ impl<R: rt::Files + Drop> FilesReal<R> {
     }
 }
 
-/// Reads to the end, where a read gives no byte, but not past the limit, in a loop of its own: std says too little of a
-/// reader after an error. What a reader has left is recorded
-/// of readers in memory alone.
+/// Reads to the end, where a read gives no byte, but not past the limit, in a loop of its own, since std says too
+/// little of a reader after an error. The rest of a reader is recorded of readers in memory alone.
 fn read_whole<F: Read>(alloc: Global, file: &mut F, limit: usize, into: &mut Bytes) -> Got
     ensures present { result ≢ Got.Absent }
     ensures within_limit { result ≡ Got.Whole → length into.new ≤ limit }
@@ -123,7 +122,7 @@ impl<R: rt::Files + Drop> Files for FilesReal<R> {
         ensures answer { AnswersRead (seen_of self.old).held name.now limit result into.new }
         ensures shows { FilesShow (seen_of self.old) (seen_of self.new) name.now limit result }
 
-        // What is counted.
+        // The failures that are counted.
         ensures counted { result ≡ Got.Failed → fault_count self.new ≡ one_more (fault_count self.old) }
         ensures no_fault { result ≢ Got.Failed → fault_count self.new ≡ fault_count self.old }
     {

@@ -1,4 +1,4 @@
-//! What is still to be written when a run is over.
+//! The last writes, once a run is over.
 
 use crate::moments::Moments;
 use crate::sockets::Sockets;

@@ -6,7 +6,7 @@ use servient_outside::NoMemory;
 use std::alloc::{AllocError, Global};
 use std::marker::Model;
 
-/// How many bytes are kept at most.
+/// The most bytes that are kept.
 pub const MOST_KEPT: usize = 4_194_304;
 
 /// The bytes that are kept, at most 4,194,304.
@@ -40,7 +40,7 @@ impl Kept {
         }
     }
 
-    /// How many bytes are kept.
+    /// The number of bytes that are kept.
     pub fn len(&self) -> usize
         ensures value { result ≡ length self.now }
         ensures bound { result ≤ 4194304 }
@@ -55,8 +55,8 @@ impl Kept {
         &self.bytes[self.gone..]
     }
 
-    /// Keeps two pieces behind what is kept. Out of memory where that would be too many bytes, too; what is kept then is
-    /// of no more use.
+    /// Keeps two pieces behind what is kept. Out of memory where that would be too many bytes, too; what is kept then
+    /// is of no more use.
     pub fn keep(&mut self, head: &[u8], body: &[u8]) -> Result<(), NoMemory>
         ensures { OnOk result (self.new ≡ self.old ++ head.now ++ body.now) }
     {

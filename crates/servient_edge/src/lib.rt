@@ -1,7 +1,8 @@
 //! The adapters of the outside to the machine that the servient runs on: sockets, files, and a writer.
 //!
 //! The traits that they meet, and their versions in memory, are those of `servient_outside`, exported here too. An
-//! adapter records nothing of what happened but its count of faults: no contract says what a socket or a file gives.
+//! adapter records nothing of what happened but its count of faults, since no contract says what a socket or a file
+//! gives.
 //!
 //! ```
 //! use servient_edge::{Files, FilesReal, Got, Out, OutReal, Put};

@@ -1,5 +1,5 @@
-//! The network over the sockets of the machine, in one thread. What happened isn't recorded, nor is it known what is
-//! still to come: it counts what fails.
+//! The network over the sockets of the machine, in one thread. Neither its happenings are recorded nor are the events
+//! to come known: it counts failures.
 
 ghost use Rattle.std.specs.Prelude.{◌≡◌, ◌≤◌, IfOk, IfSome, length};
 ghost use Rattle.servient_base.specs.Count.{Rose};
@@ -20,11 +20,12 @@ use std::net;
 use std::rt::Clock;
 use std::time::Instant;
 
-// The system is asked this many times for one event. A report of which nothing comes is no
-// event, and it is asked again.
+// The system is asked this many times for one event. A report of which nothing comes is no event, and it is asked
+// again.
 const ASKS: u32 = 64;
 
-// How often it is asked after that, each time a millisecond later: by then a tick is due by the clock.
+// The number of times that it is asked after that, each time a millisecond later, so that by then a tick is due by the
+// clock.
 const PAUSES: u32 = 1000;
 
 /// The network over sockets.
@@ -102,7 +103,7 @@ impl<R: net::Net + Clock + Drop> MioNet<R> {
         Ok(now)
     }
 
-    /// What is due now.
+    /// The event that is due now.
     fn due(&self) -> io::Result<Due> {
         match &self.timing {
             Some(timing) => Ok(timing.due(self.moments.last())),
@@ -110,7 +111,7 @@ impl<R: net::Net + Clock + Drop> MioNet<R> {
         }
     }
 
-    /// What the turns give, if anything. It is traffic. What fails for one peer is counted.
+    /// The event that the turns give, if any. It is traffic. Failures of one peer are counted.
     #[tactic(auto, using(crate::proofs::NamingLaws::names_still))]
     fn take(&mut self, buffer: &mut [u8]) -> Option<What>
         requires { length buffer.old ≡ 4096 }
@@ -175,7 +176,7 @@ impl<R: net::Net + Clock + Drop> MioNet<R> {
         self.read_clock()
     }
 
-    /// How long it is until something is due, in milliseconds.
+    /// The number of milliseconds until something is due.
     fn time_left(&self) -> io::Result<u64> {
         match &self.timing {
             Some(timing) => Ok(timing.left(self.moments.last())),
@@ -207,7 +208,7 @@ impl<R: net::Net + Clock + Drop> MioNet<R> {
         }
     }
 
-    /// What is done for a tick at this moment. The second until the next one begins when the next event is asked for.
+    /// Does the work of a tick at this moment. The second until the next one begins when the next event is asked for.
     #[tactic(auto, using(crate::proofs::NamingLaws::settles_same))]
     fn tick(&mut self)
         ensures moments { self.new.moments ≡ self.old.moments }
@@ -220,8 +221,8 @@ impl<R: net::Net + Clock + Drop> MioNet<R> {
         }
     }
 
-    /// What comes next. A tick comes by the clock, after all that waits had its turn, but for one that is due after an
-    /// event: so what is done on ticks or on events may take any time, and each has its share.
+    /// The next event. A tick comes by the clock, after all that waits had its turn, but for one that is due after an
+    /// event, so that the work on ticks or on events may take any time, and each has its share.
     #[tactic(auto, using(crate::proofs::NamingLaws::names_later, crate::proofs::NamingLaws::settles_same))]
     fn come(&mut self, buffer: &mut [u8]) -> io::Result<What>
         requires { length buffer.old ≡ 4096 }
@@ -242,7 +243,7 @@ impl<R: net::Net + Clock + Drop> MioNet<R> {
         self.wait(buffer)
     }
 
-    /// What comes next, once the system has something or the time is over.
+    /// The next event, once the system has something or the time is over.
     #[tactic(auto, using(crate::proofs::NamingLaws::names_later, crate::proofs::NamingLaws::settles_same, crate::proofs::NamingLaws::settles_twice))]
     fn wait(&mut self, buffer: &mut [u8]) -> io::Result<What>
         requires { length buffer.old ≡ 4096 }
@@ -298,8 +299,8 @@ impl<R: net::Net + Clock + Drop> Net for MioNet<R> {
         }
     }
 
-    /// Failed before it listens, dials or looks something up, and where the system doesn't say what is ready or what
-    /// time it is.
+    /// Failed before it listens, dials or looks something up, and where the system doesn't say which sockets are ready
+    /// or the time.
     #[tactic(auto, using(crate::proofs::NamingLaws::names_still))]
     fn next(&mut self, buffer: &mut [u8]) -> Next
         requires { length buffer.old ≡ 4096 }

@@ -10,7 +10,7 @@ use std::time::{Duration, Instant};
 // The last moment that there is: some 31,000 years.
 const END: u64 = 1_000_000_000_000_000;
 
-/// When a network was made, and the last moment that was read. Moments never fall.
+/// The moment at which a network was made, and the last moment that was read. Moments never fall.
 #[derive(Drop)]
 pub struct Moments {
     // None where the clock failed.

@@ -1,11 +1,11 @@
-//! What a number of a connection stands for.
+//! The part that a number of a connection stands for.
 
 ghost use Rattle.std.specs.Prelude.{◌≡◌, ◌++◌, length};
 
 use crate::connection::Connection;
 use crate::turns::Took;
 
-/// What has a number.
+/// The holder of a number.
 #[derive(Drop)]
 pub enum Number {
     Free,
@@ -17,7 +17,7 @@ pub enum Number {
 impl Number {
     ghost use Rattle.servient_edge.specs.Numbers.{TakesFrom, SendsOn, IsSilent, Settled, LeavesAt, SendsAt, standing};
 
-    /// A turn of what has a number, which is free afterwards where it has ended.
+    /// A turn of the holder, after which its number is free where it has ended.
     pub fn turn(&mut self, buffer: &mut [u8], moment: u64) -> Took
         requires { length buffer.old ≡ 4096 }
         ensures stands { TakesFrom (standing self.old) result (standing self.new) }
@@ -45,7 +45,7 @@ impl Number {
         }
     }
 
-    /// Sends on what has a number, if it is open. Whether it can't send any more; then it is given up.
+    /// Sends on the holder, if it is open. Whether it can't send any more; then it is given up.
     pub fn send(&mut self, head: &[u8], body: &[u8]) -> bool
         ensures stands { SendsOn (standing self.old) (standing self.new) }
         ensures kept { SendsAt self.old (head.now ++ body.now) self.new }
@@ -62,7 +62,7 @@ impl Number {
         }
     }
 
-    /// Closes what has a number. Whether it is free now.
+    /// Closes the holder. Whether its number is free now.
     pub fn close(&mut self, moment: u64) -> bool
         ensures { IsSilent (standing self.new) }
     {
@@ -82,7 +82,7 @@ impl Number {
         }
     }
 
-    /// What was closed and is over has no number any more.
+    /// A connection that was closed and is over has no number any more.
     pub fn end_if_over(&mut self, moment: u64)
         ensures { Settled (standing self.old) (standing self.new) }
     {

@@ -1,4 +1,4 @@
-//! The numbers of connections, from 0 to 63, and what each stands for.
+//! The numbers of connections, from 0 to 63, and the holder of each.
 
 ghost use Rattle.std.specs.Prelude.{◌≡◌, ◌<◌, ◌++◌, IfSome, None, length, vec_len};
 

@@ -1,4 +1,4 @@
-//! An output over a writer of the machine. What was written isn't recorded.
+//! An output over a writer of the machine. The bytes written aren't recorded.
 
 ghost use Rattle.std.specs.Prelude.{◌≡◌, ◌++◌, List, ℕ};
 ghost use Rattle.std.specs.Io.KnownBytes.{Appends};
@@ -6,7 +6,7 @@ ghost use Rattle.std.specs.Io.KnownBytes.{Appends};
 use servient_outside::{Out, Put};
 use std::io::Write;
 
-/// An output over a writer, as that to the standard output. It counts what fails.
+/// An output over a writer, as that to the standard output. It counts failures.
 #[derive(Drop)]
 pub struct OutReal<W: Write + Drop> {
     writer: W,
@@ -25,8 +25,8 @@ impl<W: Write + Drop> OutReal<W> {
     }
 }
 
-/// Writes until the writer has taken all, in a loop of its own: std says too little of a writer after an error. What a
-/// writer holds is recorded of writers in memory alone.
+/// Writes until the writer has taken all, in a loop of its own, since std says too little of a writer after an error.
+/// The content of a writer is recorded of writers in memory alone.
 fn write_whole<W: Write>(writer: &mut W, piece: &[u8]) -> Put
     ensures done { result ≡ Put.Done → Appends (W.contents writer.old) (W.contents writer.new) piece.now }
     ensures front { result ≡ Put.Failed
@@ -58,7 +58,7 @@ impl<W: Write + Drop> Out for OutReal<W> {
     fn put(&mut self, bytes: &[u8]) -> Put
         ensures shows { OutShows (seen_of self.old) (seen_of self.new) result bytes.now }
 
-        // What reached the writer, where it is known what that holds.
+        // The bytes that reached the writer, where its content is known.
         ensures done { result ≡ Put.Done
             → Appends (W.contents (writer_of self.old)) (W.contents (writer_of self.new)) bytes.now }
         ensures front { result ≡ Put.Failed

@@ -1,4 +1,5 @@
-//! Bytes that are sent in order to what takes them only as far as it has room, and kept as long as it has none.
+//! Bytes that are sent in order to a taker, which takes them only as far as it has room; the rest is kept as long as it
+//! has none.
 
 ghost use Rattle.std.specs.Prelude.{◌≡◌, ◌++◌, [], drop, IfOk};
 ghost use Rattle.servient_edge.specs.Sending.{SentOn};
@@ -7,7 +8,7 @@ use crate::kept::Kept;
 use mio::net::TcpStream;
 use std::io::{self, ErrorKind, IoSlice};
 
-/// What takes bytes in order, but never waits for room.
+/// A taker of bytes in order, which never waits for room.
 pub trait Taker {
     ghost use Rattle.std.specs.Prelude.{List, ℕ, Option, ◌≤◌, ◌++◌, length, IfOk};
     ghost use Rattle.std.specs.Io.KnownBytes.{WriteAppends};
@@ -15,7 +16,7 @@ pub trait Taker {
     /// All that it has taken, where that is known.
     ghost taken: { Self → Option (List ℕ) };
 
-    /// One write of two pieces. It gives how many of their bytes were taken, 0 where there is no room.
+    /// One write of two pieces. It gives the number of their bytes that were taken, 0 where there is no room.
     fn write_both(&mut self, head: &[u8], body: &[u8]) -> io::Result<usize>
         ensures bound { IfOk result (λ count. count ≤ length (head.now ++ body.now)) }
         ensures bytes { WriteAppends (taken self.old) (taken self.new) result (head.now ++ body.now) };
@@ -40,7 +41,8 @@ impl Taker for TcpStream {
     }
 }
 
-/// Sends two pieces behind what is kept: what can't be taken at once is kept. After an error neither is of more use.
+/// Sends two pieces behind the bytes that are kept: those that can't be taken at once are kept. After an error neither
+/// is of more use.
 pub fn send<T: Taker>(taker: &mut T, kept: &mut Kept, head: &[u8], body: &[u8]) -> io::Result<()>
     ensures { IfOk result (λ _. SentOn (T.taken taker.old) kept.old (head.now ++ body.now) (T.taken taker.new) kept.new) }
 {
@@ -56,7 +58,7 @@ pub fn send<T: Taker>(taker: &mut T, kept: &mut Kept, head: &[u8], body: &[u8]) 
     Ok(())
 }
 
-/// One write of what is kept, and how many bytes were taken.
+/// One write of the bytes that are kept, and the number of those that were taken.
 pub fn flush<T: Taker>(taker: &mut T, kept: &mut Kept) -> io::Result<usize>
     ensures sent { IfOk result (λ _. SentOn (T.taken taker.old) kept.old [] (T.taken taker.new) kept.new) }
 {
@@ -65,7 +67,7 @@ pub fn flush<T: Taker>(taker: &mut T, kept: &mut Kept) -> io::Result<usize>
     Ok(count)
 }
 
-/// What comes after n bytes.
+/// The bytes after the first n.
 fn after(bytes: &[u8], count: usize) -> &[u8]
     ensures { result.now ≡ drop count bytes.now }
 {

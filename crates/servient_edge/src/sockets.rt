@@ -1,5 +1,6 @@
 //! The sockets of the network: the listener, its connections by their numbers, and the socket for datagrams. The system
-//! reports once what is ready, so whoever may have more waits for another turn, until the system says that it has none.
+//! reports once that a socket is ready, so whoever may have more waits for another turn, until the system says that it
+//! has none.
 
 ghost use Rattle.std.specs.Prelude.{◌≡◌, ◌≤◌, ◌<◌, IfOk, IfSome, length};
 ghost use Rattle.servient_outside.specs.Network.{MayCome};
@@ -25,13 +26,15 @@ use std::time::Duration;
 // The token of the socket for datagrams; the listener's is its place among the turns, and a connection's its number.
 const DATAGRAMS: usize = 65;
 
-// How many events of the system are taken at once.
+// The number of events of the system that are taken at once.
 const REPORTS: usize = 128;
 
-// How many turns are taken before the system is asked again, so that one that always has something hides no other.
+// The number of turns that are taken before the system is asked again, so that one that always has something hides no
+// other.
 const TURNS: u32 = 128;
 
-// How many datagrams that wait are taken before the next turn of a connection. One such turn may be 87 requests.
+// The number of datagrams that wait which are taken before the next turn of a connection. One such turn may be 87
+// requests.
 const DATAGRAMS_IN_A_ROW: u32 = 8;
 
 const MOST_DATAGRAM_BYTES: usize = 2048;
@@ -48,13 +51,13 @@ pub struct Sockets {
     udp: Option<UdpSocket>,
     numbers: Numbers,
     turns: Turns,
-    // How many turns are left until the system is asked again.
+    // The number of turns that are left until the system is asked again.
     turns_left: u32,
-    // When the system was asked last.
+    // The moment at which the system was asked last.
     asked: u64,
     // Datagrams may wait.
     datagrams_wait: bool,
-    // How many more of them are taken before the next turn of a connection.
+    // The number of further ones that are taken before the next turn of a connection.
     datagrams_left: u32,
 }
 
@@ -198,8 +201,8 @@ impl Sockets {
         }
     }
 
-    /// Takes the next datagram. The system cuts what doesn't fit, so the buffer has more room than a datagram may have;
-    /// one that is longer is dropped.
+    /// Takes the next datagram. The buffer has more room than a datagram may have, since the system cuts what doesn't
+    /// fit; one that is longer is dropped.
     fn receive(&mut self, buffer: &mut [u8], faults: &mut u64) -> Option<What>
         requires { length buffer.old ≡ 4096 }
         ensures what { IfSome result MayCome }
@@ -226,7 +229,7 @@ impl Sockets {
         }
     }
 
-    /// A turn of a connection. Where its number is free then, whoever waits at the listener may have it.
+    /// A turn of a connection. Where its number is free then, a peer that waits at the listener may have it.
     fn read(&mut self, c: ConnectionId, buffer: &mut [u8], moment: u64) -> Option<What>
         requires bounds { c < 64 }
         requires room { length buffer.old ≡ 4096 }
@@ -285,7 +288,7 @@ impl Sockets {
         }
     }
 
-    /// Asks the system what is ready. Where none waits for a turn, it waits for at most `time` milliseconds.
+    /// Asks the system which sockets are ready. Where none waits for a turn, it waits for at most `time` milliseconds.
     pub fn ask(&mut self, moment: u64, time: u64) -> io::Result<()>
         ensures { self.new.numbers ≡ self.old.numbers }
     {
@@ -298,8 +301,8 @@ impl Sockets {
         Ok(())
     }
 
-    /// Asks the system without waiting, where a millisecond or more has passed since it was asked: a datagram isn't to
-    /// wait until all connections had their turns.
+    /// Asks the system without waiting, where a millisecond or more has passed since it was asked, so that a datagram
+    /// doesn't wait until all connections had their turns.
     pub fn look(&mut self, moment: u64) -> io::Result<()>
         ensures { self.new.numbers ≡ self.old.numbers }
     {
@@ -310,7 +313,7 @@ impl Sockets {
         }
     }
 
-    /// Lets a millisecond pass, whatever is ready.
+    /// Lets a millisecond pass, whichever socket is ready.
     pub fn pause(&mut self) -> io::Result<()>
         ensures { self.new.numbers ≡ self.old.numbers }
     {
@@ -334,7 +337,7 @@ impl Sockets {
     }
 }
 
-/// What is reported as ready waits for a turn.
+/// A socket that is reported as ready waits for a turn.
 fn note(events: &Events, turns: &mut Turns, datagrams_wait: &mut bool) {
     for event in events.iter() {
         let Token(token) = event.token();

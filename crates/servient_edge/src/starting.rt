@@ -1,4 +1,5 @@
-//! How the network begins: it listens, dials a host or looks one up, and with the first of these the times of ticks begin.
+//! The beginning of the network: it listens, dials a host or looks one up, and with the first of these the times of
+//! ticks begin.
 
 ghost use Rattle.std.specs.Prelude.{◌≡◌, ◌<◌, IfOk};
 
@@ -35,6 +36,7 @@ impl<R: net::Net + Clock + Drop> MioNet<R> {
         let coap = resolve(&self.rt, place.coap_host.as_str(), place.coap_port)?;
         let mut sockets = made(&self.rt, alloc, self.sockets.take())?;
         let bound = sockets.listen(&self.rt, http, coap);
+        // Put back before the fault is handed on, so that the sockets aren't lost.
         self.sockets = Some(sockets);
         bound?;
         self.start_times(place.idle);

@@ -1,11 +1,11 @@
-//! When the network gives a tick, and when it ends for lack of traffic. All moments are in milliseconds.
+//! The moments at which the network gives a tick, and ends for lack of traffic. All moments are in milliseconds.
 
 ghost use Rattle.std.specs.Prelude.{◌≡◌, ◌≤◌, ◌^◌, Some, unwrap_or};
 ghost use Rattle.std.specs.Option.{ForSome};
 
 const TICK: u64 = 1000;
 
-/// What is due when nothing else comes.
+/// The event that is due when nothing else comes.
 #[derive(Clone, Copy, Debug, PartialEq, Eq)]
 pub enum Due {
     Nothing,
@@ -13,15 +13,16 @@ pub enum Due {
     Stop,
 }
 
-/// When something was given last.
+/// The times of the last events.
 #[derive(Drop)]
 pub struct Timing {
     /// The run ends after this time without traffic, unless it is 0.
     pub idle: u64,
-    /// When the last event that is traffic was given.
+    /// The moment at which the last event that is traffic was given.
     pub traffic: u64,
-    /// Since when the second until the next tick counts. After a tick it hasn't begun, until the next event is asked
-    /// for: what is done on a tick may take longer than a second, and something else is to come before another.
+    /// The moment from which the second until the next tick counts. After a tick it hasn't begun, until the next event
+    /// is asked for, since the work on a tick may take longer than a second, and something else is to come before
+    /// another.
     pub since: Option<u64>,
     ghost traffic_in_bounds: { traffic ≤ 10 ^ 15 },
     ghost since_in_bounds: { ForSome since (λ moment. moment ≤ 10 ^ 15) },
@@ -43,7 +44,7 @@ impl Timing {
         }
     }
 
-    /// What is due at a moment. At one moment Stop comes before Tick.
+    /// The event that is due at a moment. At one moment Stop comes before Tick.
     pub fn due(&self, moment: u64) -> Due
         requires { moment ≤ 10 ^ 15 }
         ensures { IsDue self.now moment result }
@@ -58,7 +59,7 @@ impl Timing {
         }
     }
 
-    /// How long it is from a moment until something is due.
+    /// The time from a moment until something is due.
     pub fn left(&self, moment: u64) -> u64
         requires { moment ≤ 10 ^ 15 }
         ensures { result ≡ time_left self.now moment }

@@ -1,10 +1,10 @@
-//! Whose turn it is, and what a turn of a connection gives: the connections and the listener wait in a circle, each at
-//! most once.
+//! The order of turns, and the result of a connection's turn: the connections and the listener wait in a circle, each
+//! at most once.
 
 ghost use Rattle.std.specs.Prelude.{◌≡◌, ◌<◌, IfSome, slice_set, true};
 ghost use Rattle.servient_edge.specs.Turns.{first_of, next_of, without, last_after, none_of};
 
-/// How many connections there are at most.
+/// The most connections that there are.
 pub const CONNECTIONS: usize = 64;
 
 /// The place of the listener; a connection's is its number.
@@ -12,7 +12,7 @@ pub const LISTENER: usize = 64;
 
 const PLACES: usize = 65;
 
-/// What a turn of a connection gave.
+/// The result of a turn of a connection.
 #[derive(Clone, Copy, Debug, PartialEq, Eq)]
 pub enum Took {
     Bytes(usize),
@@ -29,7 +29,7 @@ pub enum Took {
 #[derive(Drop)]
 pub struct Turns {
     waiting: [bool; PLACES],
-    // Who had the last turn.
+    // The place that had the last turn.
     last: usize,
     ghost last_in_bounds: { last < 65 },
 }

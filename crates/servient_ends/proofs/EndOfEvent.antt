@@ -1,4 +1,4 @@
--- What a move of the machine emits and notifies of is moves of the world.
+-- The emissions and notifications of a move of the machine are moves of the world.
 use Rattle.std.proofs.Common.{◌≡◌, ◌∙◌, ◌+◌, ℕ, true, List, [], ◌∷◌, ◌++◌, map, refl, sym, ap, subst, arith, append_assoc}
 use Rattle.std.specs.Prelude.{Some, None}
 use Rattle.std.proofs.lemmas.List.{append-nil}

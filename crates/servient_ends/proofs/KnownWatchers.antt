@@ -1,4 +1,4 @@
--- Whoever watches, watches a target of the site.
+-- Each observer observes a target of the site.
 use Rattle.std.proofs.Common.{◌≡◌, ◌∙◌, ◌⊎◌, ◌<◌, ◌^◌, ℕ, Option, Bool, true, false, cond, List, [], ◌∷◌, ◌++◌, inl, inr, refl, sym, ap, subst, arith}
 use Rattle.std.specs.Prelude.{Option, Some, None, All}
 use Rattle.std.proofs.lemmas.List.Elements.{All-nil, All-push, All-contains}
@@ -23,7 +23,7 @@ pub record WatchesTargets (site : Site) (c : Server) : Type 0 where
   pub known : All (λ r. IsTarget site r.target) account.registered
   pub id : c.next_id < 2 ^ 16
 
--- what an act was for is a target
+-- the target of an act is one of the site
 abbrev pub ActsOnTarget : Site → Option Acted → Type 0
 ActsOnTarget site act = (a : Acted) (n : ℕ) → act ≡ Some a → a.target ≡ Some n → IsTarget site n
 
@@ -62,7 +62,7 @@ watches_emitted site target s y = record {
   id = y.id;
 }
 
--- what is sent next leaves these watchers
+-- the next notification leaves these observers
 noticed_watchers : (n : Option Notice) (s : Server) → (with_notice_sent n s).watchers ≡ s.watchers
 noticed_watchers None s = refl
 noticed_watchers (Some n) s = by_test n.fresh

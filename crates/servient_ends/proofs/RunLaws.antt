@@ -1,4 +1,4 @@
--- What comes of turns at the servient is a run of its machine, of which is seen what the world notes as sent.
+-- Turns at the servient make a run of its machine, whose trace has the datagrams that the world notes as sent.
 use Rattle.std.proofs.Common.{◌≡◌, ◌∙◌, ℕ, Bool, true, false, cond, List, [], ◌∷◌, ◌++◌, map, length, take, max, ◌+◌, refl, sym, ap, subst, append_assoc}
 use Rattle.std.specs.Prelude.{Option, Some, None, slice_get, option_map}
 use Rattle.std.specs.Option.{option_to_list}
@@ -114,7 +114,7 @@ client_ran site p q same c = record {
 stays_ran : (site : Site) (p q : EndsState) → AtClient Stays p q → Ran site p q
 stays_ran site p q at = client_ran site p q at.same (sent_nothing p.world q.world (ap (λ (x : WorldState). x.sent) at.does))
 
--- what was sent back and what was notified of
+-- the datagrams that were sent back, and the notifications
 both_sent : (a b c : List Datagram) (x y all : Sent) → sent_by_servient b ≡ x → sent_by_servient c ≡ y → all ≡ x ++ y → sent_by_servient ((a ++ b) ++ c) ≡ sent_by_servient a ++ all
 both_sent a b c x y all one two whole =
     sent_both (a ++ b) c ∙ (ap (λ (l : Sent). l ++ sent_by_servient c) (sent_both a b)

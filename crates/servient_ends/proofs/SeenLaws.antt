@@ -1,4 +1,4 @@
--- What the world notes as sent by the servient is what is seen of its machine.
+-- The datagrams that the world notes as sent by the servient are those in the trace of its machine.
 use Rattle.std.proofs.Common.{◌≡◌, ◌∙◌, ℕ, Bool, true, false, List, [], ◌∷◌, ◌++◌, map, inl, inr, refl, sym, ap, append_assoc}
 use Rattle.std.specs.Prelude.{Option, Some, None}
 use Rattle.std.proofs.lemmas.List.{append-nil}
@@ -28,7 +28,7 @@ seen_both [] b = refl
 seen_both (at_network h ∷ a) b = ap (λ (l : Sent). datagrams_at h ++ l) (seen_both a b) ∙ sym (append_assoc (datagrams_at h) (datagrams_in a) (datagrams_in b))
 seen_both (at_handler call ∷ a) b = seen_both a b
 
--- what one move and then another sends
+-- the datagrams that one move and then another sends
 then_sends : (seen first second : List Sighting) (a b : Sent) → seen ≡ first ++ second → datagrams_in first ≡ a → datagrams_in second ≡ b → datagrams_in seen ≡ a ++ b
 then_sends seen first second a b whole one other =
     ap datagrams_in whole ∙ (seen_both first second ∙ (ap (λ (l : Sent). l ++ datagrams_in second) one ∙ ap (λ (l : Sent). a ++ l) other))
@@ -181,7 +181,7 @@ end_sends s t seen ends =
 
 -- ---- an event
 
--- What is seen of a datagram with its step: what was sent back, and the notifications.
+-- The trace of a datagram with its step: the datagrams that were sent back, and the notifications.
 pub hearing_sends : (site : Site) (now : ℕ) (from : Endpoint) (size : ℕ) (bytes : List ℕ) (s t : State) (seen : List Sighting)
     → (step : EventAndStep site (event_at now (what.Datagram from size) bytes) s seen t)
     → datagrams_in seen ≡ back_to from (back_of site from bytes _ step.other.first step.other.mid step.other.one) ++ noticed t.thing (notices_in step.other.mid step.other.second t step.other.other)

@@ -1,4 +1,5 @@
--- What each move of the machine does to the parts of it that the world speaks of: the moment, the CoAP server and the Things.
+-- The effect of each move of the machine on the parts of it that the world speaks of: the moment, the CoAP server and
+-- the Things.
 use Rattle.std.proofs.Common.{◌≡◌, ◌∙◌, ◌<◌, ◌≤◌, ◌^◌, ℕ, Bool, List, [], ◌∷◌, ◌++◌, map, length, inl, inr, refl, sym, ap, subst}
 use Rattle.std.specs.Prelude.{Option, Some, None}
 use Rattle.std.proofs.lemmas.Option.{same_Some}
@@ -146,7 +147,7 @@ any_leaves : (c : ℕ) (reply : Option HttpReply) (s t : State) (seen : List Sig
 any_leaves c None s t seen stays = leaves_shown s t [] seen stays
 any_leaves c (Some reply) s t seen does = leaves_shown s t _ seen does
 
--- what a request by HTTP does to these parts
+-- the effect of a request by HTTP on these parts
 record Performed (es : List Emission) (s t : State) : Type 0 where
   moment : t.moment ≡ s.moment
   coap : t.coap ≡ s.coap
@@ -207,7 +208,7 @@ abbrev pub IsNoDatagram : What → Type 0
 IsNoDatagram (what.Datagram from size) = ⊥
 IsNoDatagram w = Unit {0}
 
--- What follows on an event that is no datagram leaves the CoAP server but for what it emits.
+-- An event that is no datagram leaves the CoAP server but for its emissions.
 pub other_happened : (site : Site) (w : What) (bytes : List ℕ) (s t : State) (seen : List Sighting) → IsNoDatagram w → (f : Follows site w bytes s seen t)
     → Happened (emitted_by site w bytes s seen t f) s t
 other_happened site (what.Opened c) bytes s t seen plain f = happened_left s t (leaves_http s t f.0 seen f.2)
@@ -220,7 +221,8 @@ other_happened site what.Stop bytes s t seen plain f = happened_left s t (leaves
 
 -- ---- a datagram
 
--- What a datagram did: the server received it, with this act and this sent back, and then what was emitted was delivered.
+-- A datagram had this effect: the server received it, with this act and this sent back, and then its emissions were
+-- delivered.
 pub record IsHeard (site : Site) (from : Endpoint) (bytes : List ℕ) (act : Option Acted) (back : List (List ℕ)) (es : List Emission) (s t : State) : Type 0 where
   pub after : Server
   pub receives : Receives from bytes s.moment act back s.coap after

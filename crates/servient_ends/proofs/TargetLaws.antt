@@ -1,4 +1,4 @@
--- What a request may observe is a target of the site: something that may emit.
+-- The target that a request may observe is one of the site: an affordance that may emit.
 use Rattle.std.proofs.Common.{◌≡◌, ◌∙◌, ℕ, Bool, true, false, cond, List, [], ◌∷◌, ◌++◌, map, refl, sym, ap, subst, arith}
 use Rattle.std.specs.Prelude.{Option, Some, None, option_and_then, slice_get, ◌==◌, ◌&&◌}
 use Rattle.std.specs.List.{AllByRecursion, filter}
@@ -176,7 +176,7 @@ place_target route.Things path site place n e some = absurd cc
 place_target route.Entry path site place n e some = absurd cc
 place_target route.Nowhere path site place n e some = absurd cc
 
--- what stands is what was looked for, where it is a target
+-- the place that stands is the one that was looked for, where it is a target
 stands_same : (invocations : List Invocation) (place there : Place) (n : ℕ) → where_stands invocations place ≡ Some there → target_at (Some there) ≡ Some n → target_at (Some place) ≡ Some n
 stands_same invocations (description t) there n e some = ap (λ (x : Place). target_at (Some x)) (same_Some (description t) there e) ∙ some
 stands_same invocations (all_properties t) there n e some = ap (λ (x : Place). target_at (Some x)) (same_Some (all_properties t) there e) ∙ some
@@ -199,7 +199,7 @@ target_there path site invocations n e =
     let of = came_of (where_stands invocations) (place_at (route_of path) path site) some.0 some.1 in
     place_target (route_of path) path site of.0 n of.1 (stands_same invocations of.0 some.0 n of.2 some.2)
 
--- What a request observes is a target.
+-- A request observes a target.
 pub observed_there : (site : Site) (thing : ThingState) (ask : PlainAsk) (n : ℕ) → observed_target site thing ask ≡ Some n → IsTarget site n
 observed_there site thing ask n e = by_observe ask.observe e
   where

@@ -1,4 +1,4 @@
--- What a request and a poll do to the last values, and how many invocations there can be.
+-- The effect of a request and of a poll on the last values, and the most invocations that there can be.
 use Rattle.std.proofs.Common.{◌≡◌, ◌≤◌, ◌<◌, ◌+◌, ◌^◌, ℕ, List, [], ◌∷◌, ◌++◌, map, refl, sym, ap, subst, ◌∙◌, arith, inl, inr, append_assoc}
 use Rattle.std.specs.Prelude.{Result, Ok, Err, Option, Some, None}
 use Rattle.std.proofs.lemmas.List.{append-nil}
@@ -65,7 +65,7 @@ call_emits slot what (gives a) s seen t p = record {
       record { ids = omega arith; turns = omega arith };
 }
 
--- what a request came to, where it emitted nothing
+-- the outcome of a request, where it emitted nothing
 record IsPlain (done : Done) (s t : State) : Type 0 where
   nothing : done.emissions ≡ []
   emits : Emitted [] s t
@@ -84,7 +84,7 @@ plain_after done s m t one two = record { nothing = two.nothing; emits = none_th
 
 -- ---- reads
 
--- what is seen emits nothing
+-- seeing a value emits nothing
 seen_emits : (p : Placed) (r : Result Json Outcome) (s t : State) → t ≡ with_value p r s → Emitted [] s t
 seen_emits p (Ok value) s t e = record {
   last = ap (λ (x : State). x.last) e;
@@ -106,7 +106,7 @@ each_plain (p ∷ ps) got done s seen t q =
 
 -- ---- writes
 
--- what a row of writes emits beside what was emitted before
+-- the emissions of a row of writes beside those before
 record EmitsMore (before : List Emission) (done : Done) (s t : State) : Type 0 where
   more : List Emission
   all : done.emissions ≡ before ++ more
@@ -255,7 +255,7 @@ performs_emit (cancels p id) q is done s seen t x = plain_emits done s t (cancel
 performs_emit (reads_event p) q is done s seen t x = plain_emits done s t (plain_is done _ s t x.0 x.1.next)
 performs_emit (waits p) q is done s seen t x = plain_emits done s t (plain_is done _ s t x.0 x.1.next)
 
--- What a request emits becomes the last values.
+-- The emissions of a request become the last values.
 pub acts_emit : (site : Site) (q : PlainRequest) (done : Done) (s : State) (seen : List HandlerCall) (t : State) → Acts site q done s seen t → Emitted done.emissions s t
 acts_emit site q done s seen t (refuses o refused answers) = plain_emits done s t (plain_is done o s t answers.0 answers.1.next)
 acts_emit site q done s seen t (has_no_memory answers) = plain_emits done s t (plain_is done _ s t answers.0 answers.1.next)

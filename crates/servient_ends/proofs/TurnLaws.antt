@@ -43,7 +43,7 @@ record Turned (site : Site) (p q : EndsState) : Type 0 where
 
 -- ---- the end of an event
 
--- What is emitted on an event and what ends it are moves of the world.
+-- The emissions on an event and its end are moves of the world.
 record Ended (site : Site) (es : List ThingEmission) (ns : List Notice) (w : WorldState) (t : State) : Type 0 where
   moves : List WorldMove
   plays : PlaysAll moves w (with_notices t.thing ns (with_emissions es (record w { server = t.coap })))

@@ -1,8 +1,8 @@
--- The world of both ends with the whole servient in the place of its CoAP server: each event that comes to the servient is an
--- event of its machine, and what it sends, acts on and emits is read off the step that the machine makes on it.
+-- The world of both ends with the whole servient in the place of its CoAP server: each event that comes to the servient
+-- is an event of its machine, and what it sends, acts on and emits is read off the step that the machine makes on it.
 --
--- `World` of servient_world says what the client does, what was sent for what, and which datagrams may come; `EventAndStep` of
--- servient_core says what the servient does. Nothing here says how a server treats a datagram.
+-- `World` of servient_world says what the client does, what was sent for what, and which datagrams may come;
+-- `EventAndStep` of servient_core says what the servient does. Nothing here says how a server treats a datagram.
 use Rattle.std.specs.Prelude.{◌≡◌, ◌+◌, ℕ, true, false, List, [], ◌∷◌, ◌++◌, length, map, Option, Some, None, slice_get, if◌then◌else◌}
 use mathlib.Core.Logic.{inl, inr}
 use Rattle.servient_base.specs.Moves.{Until, is_done, goes_on, Each}
@@ -41,7 +41,7 @@ pub record IsBeginning (site : Site) (first_id exchanges : ℕ) (p : EndsState) 
 
 -- ---- what is read off a step
 
--- what each of a row of moves came to, one after another
+-- the results of a row of moves, one after another
 abbrev pub along : {A : Type 0} (P : Move) (IsDone : State → Type 0) → ((s : State) (seen : List Sighting) (t : State) → P s seen t → List A)
     → (s : State) (seen : List Sighting) (t : State) → Until P IsDone s seen t → List A
 along {A} P IsDone each s seen t (is_done s' seen' t' done stays) = []
@@ -54,7 +54,7 @@ act_on site from (answered_at_once bytes) s seen t r = None
 act_on site from (asked ask request) s seen t r =
     Some (record { what = ask; outcome = r.0.outcome; target = observed_target site r.1.mid.thing ask })
 
--- what was sent back
+-- the datagrams that were sent back
 abbrev pub sent_on : (site : Site) (from : Endpoint) (h : Heard) (s : State) (seen : List Sighting) (t : State) → AnswersDatagram site from h s seen t → List (List ℕ)
 sent_on site from ignored s seen t r = []
 sent_on site from (answered_at_once bytes) s seen t r = bytes ∷ []
@@ -79,7 +79,7 @@ abbrev pub emitted_by_datagram : (site : Site) (from : Endpoint) (bytes : List �
 emitted_by_datagram site from bytes s seen t (inl long) = []
 emitted_by_datagram site from bytes s seen t (inr h) = emitted_on site from h.1.0 h.1.1.mid h.1.1.second t h.1.1.other
 
--- what was emitted by a request that came by HTTP
+-- the emissions of a request that came by HTTP
 abbrev pub emitted_by_message : (site : Site) (c : ℕ) (taken : Taken) (s : State) (seen : List Sighting) (t : State) → AnswersTaken site c taken s seen t → List ThingEmission
 emitted_by_message site c (asks q) s seen t r = r.0.emissions
 emitted_by_message site c wants_continue s seen t r = []
@@ -89,12 +89,12 @@ emitted_by_message site c interrupts s seen t r = []
 abbrev pub emitted_by_next : (site : Site) (c : ℕ) (s : State) (seen : List Sighting) (t : State) → TakesNextMessage site c s seen t → List ThingEmission
 emitted_by_next site c s seen t r = emitted_by_message site c r.0 r.1.mid r.1.second t r.1.other
 
--- what was emitted by polls
+-- the emissions of polls
 abbrev pub emitted_by_polls : (events : List Placed) (s : State) (seen : List Sighting) (t : State) → Each PollsAndDelivers events s seen t → List ThingEmission
 emitted_by_polls [] s seen t stays = []
 emitted_by_polls (p ∷ events) s seen t polls = polls.one.0 ++ emitted_by_polls events polls.mid polls.second t polls.other
 
--- what was emitted on any event
+-- the emissions on any event
 abbrev pub emitted_by : (site : Site) (w : What) (bytes : List ℕ) (s : State) (seen : List Sighting) (t : State) → Follows site w bytes s seen t → List ThingEmission
 emitted_by site (what.Opened c) bytes s seen t f = []
 emitted_by site (what.Bytes c size) bytes s seen t f = along (TakesNextMessage site c) (λ s. IsDry c s.http) (emitted_by_next site c) f.mid f.second t f.other
@@ -112,7 +112,7 @@ notices_in s seen t ends = along SendsNotification NothingIsDue (λ u shown v se
 abbrev pub as_emission : ThingEmission → Emission
 as_emission e = record { target = e.target; text = e.text }
 
--- how many of these used the next message ID
+-- the number of these that used the next message ID
 abbrev pub fresh_among : List Notice → ℕ
 fresh_among [] = 0
 fresh_among (n ∷ ns) = one_if n.fresh + fresh_among ns
@@ -161,8 +161,8 @@ pub record ServientDoes (site : Site) (w : What) (bytes : List ℕ) (p q : EndsS
 
 -- ---- moves
 
--- What may happen: the client asks, or does what is due; the datagram that was sent as this one comes; so much time passes; any
--- other event comes to the servient.
+-- The turns that may happen: the client asks, or does the work that is due; the datagram that was sent as this one
+-- comes; so much time passes; any other event comes to the servient.
 pub data Turn : Type 0 where
   asks_next : Asking → Turn
   does_due : Turn
@@ -199,7 +199,7 @@ abbrev pub Besides : Site → What → List ℕ → EndsState → EndsState → 
 Besides site (what.Datagram from size) bytes p q = FromElsewhere site from size bytes p q
 Besides site w bytes p q = ServientDoes site w bytes p q
 
--- What a turn does. One that isn't allowed is skipped.
+-- The effect of a turn. One that isn't allowed is skipped.
 abbrev pub Takes : Site → Turn → EndsState → EndsState → Type 0
 Takes site (asks_next a) p q = AtClient (ClientAsks a) p q
 Takes site does_due p q = AtClient ClientDoesDue p q

@@ -1,4 +1,4 @@
--- What holds of both ends where the server is the whole servient, over every list of turns.
+-- Laws of both ends where the server is the whole servient, over every list of turns.
 use Rattle.std.specs.Prelude.{◌≡◌, ◌≤◌, ◌⊎◌, ℕ, List, ◌∷◌, length, Contains, Option}
 use Rattle.coap_msg.specs.declared.block.Block.{Block}
 use Rattle.servient_outside.specs.declared.net.EventWithBytes.{EventWithBytes}
@@ -15,7 +15,8 @@ TurnsAreMoves =
     (site : Site) (first_id exchanges : ℕ) (turns : List Turn) (p q : EndsState) → IsBeginning site first_id exchanges p → TakesAll site turns p q
     → (moves : List WorldMove) × PlaysAll moves p.world q.world
 
--- What the servient does meanwhile is a run of its machine, and what it sent in the world is what is seen of that run.
+-- The servient meanwhile makes a run of its machine, and the trace of that run has the datagrams that it sent in the
+-- world.
 abbrev pub ServientRuns : Type 0
 ServientRuns =
     (site : Site) (first_id exchanges : ℕ) (turns : List Turn) (p q : EndsState) (begins : IsBeginning site first_id exchanges p) → TakesAll site turns p q
@@ -28,8 +29,8 @@ ServientActsOnce =
     (site : Site) (first_id exchanges : ℕ) (turns : List Turn) (p q : EndsState) → IsBeginning site first_id exchanges p → TakesAll site turns p q
     → AreForDifferentAsks q.world.acts
 
--- For an ask for another path than that of the links, without a block of its body and without one after the first of the response,
--- which ended with a response that is no excuse it made an act, and the response says what that came to.
+-- For an ask for another path than that of the links, without a block of its body and without one after the first of
+-- the response, which ended with a response that is no excuse it made an act, and the response says what that came to.
 abbrev pub ServientAnswersOnce : Type 0
 ServientAnswersOnce =
     (site : Site) (first_id exchanges : ℕ) (turns : List Turn) (p q : EndsState) (k code : ℕ) (block : Option Block) (payload : List ℕ)
@@ -56,7 +57,7 @@ ServientValuesHaveASource =
     (site : Site) (first_id exchanges : ℕ) (turns : List Turn) (p q : EndsState) → IsBeginning site first_id exchanges p → TakesAll site turns p q
     → length q.world.asks ≤ 65536 → HaveASource q.world.acts q.world.emitted q.world.taken
 
--- What a row of asks for the blocks of one body reads is of one act, or of the links of the servient.
+-- A row of asks for the blocks of one body reads of one act, or of the links of the servient.
 abbrev pub ServientReadsOneAct : Type 0
 ServientReadsOneAct =
     (site : Site) (first_id exchanges : ℕ) (turns : List Turn) (p q : EndsState) (path : List (List ℕ)) (szx : ℕ) (x : RowAsk) (row : List RowAsk)
@@ -64,7 +65,7 @@ ServientReadsOneAct =
     → AreReads q.world.asks q.world.ends path szx 0 (x ∷ row) → AreInOrder (x ∷ row) → NoOther q.world.asks (IsOfPath path) x row
     → AreOfOneAct path q.world x row
 
--- What a row of asks with the blocks of one body writes is acted on once, whole.
+-- A row of asks with the blocks of one body is acted on once, whole.
 abbrev pub ServientWritesOneAct : Type 0
 ServientWritesOneAct =
     (site : Site) (first_id exchanges : ℕ) (turns : List Turn) (p q : EndsState) (code : ℕ) (path : List (List ℕ)) (szx : ℕ) (x : RowAsk) (row : List RowAsk)

@@ -1,6 +1,6 @@
-//! Both ends with the whole servient in the place of the CoAP server: the machine of `servient_core` beside a client, in
-//! a network that may lose, repeat and reorder what either sends. `specs/Ends.antt` is that world, and `specs/Laws.antt`
-//! says that the laws of `servient_world` hold of it, since each turn of it is moves of that world.
+//! Both ends with the whole servient in the place of the CoAP server: the machine of `servient_core` beside a client,
+//! in a network that may lose, duplicate and reorder datagrams of either. `specs/Ends.antt` is that world, and
+//! `specs/Laws.antt` says that the laws of `servient_world` hold of it, since each turn of it is moves of that world.
 #![tactic(auto)]
 
 mod laws;

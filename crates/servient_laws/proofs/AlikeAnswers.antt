@@ -118,17 +118,17 @@ AtOnce = Reply × List Part
 abbrev pub both_of : Reply → List Part → AtOnce
 both_of r parts = (r, parts)
 
--- what is answered to a block of a request, unless the body is whole
+-- the answer to a block of a request, unless the body is whole
 abbrev added_at : Block → Added × List Part → Option AtOnce
 added_at b x = option_map (λ r. both_of r x.1) (added_reply b x.0)
 
--- what is answered to a request that wants an act: that it can't be, where it is for the links and no GET
+-- the answer to a request that wants an act: that it can't be, where it is for the links and no GET
 abbrev act_at : Bool → Bool → List Part → Option AtOnce
 act_at true true parts = None
 act_at true false parts = Some (both_of method_reply parts)
 act_at false get parts = None
 
--- what is answered to a block of a request for the links: that it can't be, where the body is whole
+-- the answer to a block of a request for the links: that it can't be, where the body is whole
 abbrev refused_whole : Block → Added → List Part → Option AtOnce
 refused_whole b (added.Complete place) parts = Some (both_of method_reply (remove parts place))
 refused_whole b added.Continue parts = added_at b (added.Continue, parts)
@@ -214,7 +214,7 @@ pub at_once_alike : (from : Endpoint) (now : ℕ) (m : CoapMessage) (s t : Serve
 at_once_alike from now m s t same =
     ap₂ (λ (bodies : List Body) (parts : List Part). at_once from now m bodies parts (slice_get (faults_of m.options) 0) (wanted_in m)) same.bodies same.parts
 
--- what was answered at once wasn't ignored
+-- a message that was answered at once wasn't ignored
 pub not_ignored : (from : Endpoint) (now : ℕ) (m : CoapMessage) (r : Reply) (s : Server) (parts : List Part) (number : ℕ) → IsAnsweredAtOnce from now m r s parts
     → slice_get (faults_of m.options) 0 ≡ Some (BadOption number) → request_type m.kind ≡ NonConfirmable → ⊥
 not_ignored from now m r s parts number (bad_option other first con is same) found non = let apart : Confirmable ≡ NonConfirmable = sym con ∙ non in cc

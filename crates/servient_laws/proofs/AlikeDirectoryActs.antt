@@ -1,4 +1,4 @@
--- What a request does to the directory is determined, unless it is out of memory.
+-- The effect of a request on the directory is determined, unless it is out of memory.
 use Rattle.std.proofs.Common.{◌≡◌, ℕ, List, [], ◌∷◌, sym, ap, subst, ◌∙◌, inl, inr}
 use Rattle.std.specs.Prelude.{◌≢◌}
 use Rattle.std.proofs.lemmas.Option.{same_Some}

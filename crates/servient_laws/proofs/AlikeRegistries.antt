@@ -1,4 +1,4 @@
--- What an act does to a directory whose entries have times is determined, unless it is out of memory.
+-- The effect of an act on a directory whose entries have times is determined, unless it is out of memory.
 use Rattle.std.proofs.Common.{◌≡◌, ℕ, Bool, List, Option, Some, None, refl, sym, ap, ap₂, subst, ◌∙◌, inl, inr}
 use Rattle.std.proofs.lemmas.Option.{same_Some}
 use Rattle.wot_json.specs.Tree.{Json}
@@ -91,11 +91,11 @@ puts_at_once id v now o p r s u on_o on_p (inr (f, a, is, after)) (inr (g, b, is
 
 -- ---- patching
 
--- what a patch makes of what is kept under an id
+-- the description that a patch makes of the one under an id
 abbrev patched_from : List ℕ → Json → Registered → Json → Json
 patched_from id patch r kept = merge (with_ttl (own_ttl (times_of id r.times)) kept) patch
 
--- what holds of a patched description holds of the one that is kept
+-- a fact of a patched description holds of the one that is kept
 of_kept : (P : Json → Type 0) (id : List ℕ) (patch : Json) (r : Registered) (kept : Json) → member_named id r.contents.entries ≡ Some kept → HoldsPatched id patch r P → P (patched_from id patch r kept)
 of_kept P id patch r kept there b = subst (λ (x : Json). P (patched_from id patch r x)) (one_held id r.contents kept b.0 there b.1) b.2
 

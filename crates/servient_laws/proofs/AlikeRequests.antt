@@ -39,7 +39,7 @@ missed_first : (a b : List HandlerCall) → NoneMissed (a ++ b) → NoneMissed a
 missed_first [] b h = tt
 missed_first (c ∷ a) b h = (h.0, missed_first a b h.1)
 
--- what is known of a trace is known of the calls that it is
+-- the answers that are known of a trace are known of the calls that it is
 answers_are : (answers : ℕ → Answer) (calls : List HandlerCall) (a : List Sighting) → a ≡ map at_handler calls → Fits answers a → AreAnsweredBy answers calls
 answers_are answers calls a saw fits = subst (λ (cs : List HandlerCall). AreAnsweredBy answers cs) (ap calls_in saw ∙ the_calls calls) fits.answered_so
 

@@ -64,7 +64,7 @@ no_number does from token old new observe none (leaves is isnt same) = isnt
 no_number does from token old new observe none (cancels is isnt same) = isnt
 no_number does from token old new observe none (registers target r is move number) = absurd (let apart : effect.Nothing ≡ effect.Registers target = sym none ∙ is in cc)
 
--- that memory was wanting is never said in blocks
+-- want of memory is never said in blocks
 memory_is_whole : (x : BlockUse) → answer_reply x outcome.Memory ≡ reply_of outcome.Memory
 memory_is_whole blocks.Whole = refl
 memory_is_whole (blocks.Gives g) = refl
@@ -121,7 +121,7 @@ asked_agrees answers site from ask r q s t u v a b alike same (x, p) (y, w) on_a
     let rest : Agree p.second w.second u v = joined p.other.first there.first p.other.second there.second p.second w.second p.other.mid there.mid u v written delivered p.other.whole there.whole in
     joined p.first w.first p.second w.second a b p.mid w.mid u v first.1 rest p.whole w.whole
 
--- what follows on what was heard
+-- the answer to a datagram that was heard
 heard_agrees : (answers : ℕ → Answer) (site : Site) (from : Endpoint) (h k : Heard) (s t u v : State) (a b : List Sighting) → SameHeard h k s.coap t.coap → Alike s t
     → AnswersDatagram site from h s a u → AnswersDatagram site from k t b v → Fits answers a → Fits answers b → Agree a b u v
 heard_agrees answers site from ignored ignored s t u v a b same alike p q on_a on_b = becomes_agree s t u v [] [] a b alike refl p q
@@ -137,7 +137,7 @@ heard_agrees answers site from (answered_at_once x) (asked other q) s t u v a b 
 heard_agrees answers site from (asked ask r) ignored s t u v a b same alike p w on_a on_b = absurd same
 heard_agrees answers site from (asked ask r) (answered_at_once y) s t u v a b same alike p w on_a on_b = absurd same
 
--- what was heard isn't a reply for want of memory
+-- the answer to a datagram is no reply for want of memory
 heard_is_ample : (answers : ℕ → Answer) (site : Site) (from : Endpoint) (h : Heard) (s u : State) (a : List Sighting) → AnswersDatagram site from h s a u → Fits answers a → IsAmple h
 heard_is_ample answers site from h s u a move fits head id is =
     let does : Does (act.Datagram from (spelling (coap_reply (reply_of outcome.Memory) head id)) ∷ []) s a u = subst (λ (x : Heard). AnswersDatagram site from x s a u) is move in

@@ -156,7 +156,7 @@ IsMalformed bytes h s u = (f : MsgFault) × HasMsgFault f bytes × (h ≡ replie
 abbrev IsNoRequest : Endpoint → List ℕ → Heard → Server → Server → Type 0
 IsNoRequest from bytes h s u = (m : CoapMessage) × Spells m bytes × (is_request m ≡ false) × (h ≡ replied_at_once (empty_reply m.kind m.id false)) × (u ≡ with_report from m s)
 
--- what follows on what it met
+-- the effect of a message that met this
 abbrev Follows : Endpoint → ℕ → CoapMessage → Heard → Server → Server → Server → Met → Type 0
 Follows from now m h s w u (Repeat kept) =
     (e : Exchange) × (duplicated_exchange (arrival from now m) (at_moment now s.exchanges) ≡ Some e) × (h ≡ duplicate_reply (request_type m.kind) e.reply) × (u ≡ w)

@@ -1,4 +1,4 @@
--- What is done with connections is determined.
+-- The acts on connections are determined.
 use Rattle.std.proofs.Common.{◌≡◌, ℕ, Bool, List, [], ◌∷◌, ◌++◌, position, Option, Some, None, refl, sym, ap, ap₂, subst, ◌∙◌}
 use Rattle.std.proofs.lemmas.Option.{same_Some}
 use Rattle.thing_ops.specs.declared.outcome.Outcome.{Outcome}

@@ -1,4 +1,4 @@
--- What a request meets in two tables of exchanges that differ in slots alone.
+-- The meetings of a request in two tables of exchanges that differ in slots alone.
 use Rattle.std.proofs.Common.{◌≡◌, ◌==◌, ℕ, Bool, true, false, cond, List, [], ◌∷◌, ◌++◌, map, length, find, Option, Some, None, option_map, refl, sym, ap, ap₂, subst, ◌∙◌, arith}
 use Rattle.std.specs.List.{filter}
 use Rattle.std.proofs.lemmas.List.{map-append, length-map}
@@ -36,7 +36,7 @@ same_at_moment now t u same = record {
   exchanges = filter_unplaced (lives now) t.exchanges ∙ ap (λ (xs : List Exchange). filter (λ e. lives now e.arrival) xs) same.exchanges ∙ sym (filter_unplaced (lives now) u.exchanges);
 }
 
--- the exchange that a request repeats is the same, but for its slot
+-- the exchange of which a request is a duplicate is the same, but for its slot
 pub same_duplicated : (a : Arrival) (t u : Table) → SameTable t u → option_map unplaced (duplicated_exchange a t) ≡ option_map unplaced (duplicated_exchange a u)
 same_duplicated a t u same =
     find_unplaced (is_duplicate_of a) t.exchanges ∙ ap (λ (xs : List Exchange). find (λ e. is_duplicate_of a e.arrival) xs) same.exchanges ∙ sym (find_unplaced (is_duplicate_of a) u.exchanges)

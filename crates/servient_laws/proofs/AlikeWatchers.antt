@@ -1,4 +1,4 @@
--- What is done with watchers is determined: by an answer, and by what is due.
+-- The acts on observers are determined: by an answer, and by the messages that are due.
 use Rattle.std.proofs.Common.{◌≡◌, ◌+◌, ◌%◌, ℕ, Bool, true, false, List, [], ◌∷◌, ◌++◌, take, find, Option, Some, None, option_map, refl, sym, ap, ap₂, subst, ◌∙◌, arith}
 use Rattle.std.specs.Prelude.{if◌then◌else◌}
 use Rattle.std.proofs.lemmas.Option.{same_Some}
@@ -61,7 +61,7 @@ watched_once does from token old u v o p (registers n r is a b) (registers m q i
     let both = registered_once from token n old u v r q a (subst (λ (x : ℕ). Registers from token x old q v) same_one c) in
     (b ∙ ap sequence_of both.0 ∙ sym d, both.1)
 
--- what was asked is answered in the same bytes
+-- a request is answered in the same bytes
 pub same_answers : (one other : PendingReply) (o : Outcome) (target : Option ℕ) (a b : List ℕ) (s t u v : Server) → SameServer s t → SameAsk one other s t
     → Answers one o target a s u → Answers other o target b t v → (a ≡ b) × SameServer u v
 same_answers one other o target a b s t u v same_servers ask p q =
@@ -83,7 +83,7 @@ same_answers one other o target a b s t u v same_servers ask p q =
     p.replies (subst (λ (x : Option ℕ). Replies (observed x (answer_reply one.blocks o)) (head_in other) other.slot b (ready other o q.watchers t) v) (sym once.0)
     (subst (λ (x : BlockUse). Replies (observed q.observe (answer_reply x o)) (head_in other) other.slot b (ready other o q.watchers t) v) (sym ask.blocks) q.replies))
 
--- the watchers of a target are marked
+-- the observers of a target are marked
 pub same_emitted : (target : ℕ) (s t : Server) → SameServer s t → SameServer (with_emitted target s) (with_emitted target t)
 same_emitted target s t is = record { table = is.table; watchers = ap (λ (w : Watching). with_emission target w) is.watchers; next = is.next; bodies = is.bodies; parts = is.parts; links = is.links }
 

@@ -284,7 +284,7 @@ performs_fit site (cancels p id) q inputs done s calls t among is given short ta
 performs_fit site (reads_event p) q inputs done s calls t among is given short taken r = fit_none site calls r.1.saw
 performs_fit site (waits p) q inputs done s calls t among is given short taken r = fit_none site calls r.1.saw
 
--- what holds of no act that is asked for, holds of none of what it hands in
+-- a fact of no act that is asked for is one of no input of it
 not_some : (P : Input → Type 0) (a : Asked) (act : Act) (inputs : List Input) → act_asked a ≡ Some act → inputs_of act a.request.body ≡ Some inputs
     → ¬ (Holding (λ x. Holding (SomeInput P) (inputs_of x a.request.body)) (act_asked a)) → ¬ (SomeInput P inputs)
 not_some P a act inputs asked given none some =

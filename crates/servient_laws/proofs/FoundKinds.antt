@@ -154,7 +154,7 @@ at_kind form place v act is e = by_test (is_listed v (verbs_of form (flags_of pl
     by_test true found = subst (λ (x : Act). IsActOfKind x) (same_Some (act_of place v) act found) (verb_kind place v is)
     by_test false found = absurd cc
 
--- what is asked for is of its kind
+-- the act that is asked for is of its kind
 pub asked_kind : (a : Asked) (act : Act) → act_asked a ≡ Some act → IsActOfKind act
 asked_kind a act e =
     let of = came_of (λ (place : Place). act_at (route_of a.request.path) place a.request.verb) (place_asked a) act e in

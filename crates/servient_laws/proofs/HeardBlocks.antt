@@ -1,4 +1,4 @@
--- What a datagram that is heard does to the bodies and the parts, what it asks, and what answering that does to them.
+-- The effect of a datagram that is heard on the bodies and the parts, its ask, and the effect of answering that.
 use Rattle.std.proofs.Common.{◌≡◌, ℕ, List, [], ◌∷◌, ◌++◌, refl, sym, ap, ap₂, subst, ◌∙◌, inl, inr, remove, map}
 use Rattle.std.specs.Prelude.{◌⊎◌, Option, Some, None, true}
 use Rattle.std.proofs.lemmas.List.{append-nil}
@@ -66,7 +66,7 @@ pub data AreBlocksOf (from : Endpoint) (bytes : List ℕ) (now : ℕ) (row : Lis
   one_block : (m : CoapMessage) (b : Block) → Spells m bytes → is_request m ≡ true → wanted_in m ≡ wanted.Joining b → row ≡ block_arrival from now m b ∷ []
       → AreBlocksOf from bytes now row
 
--- what a datagram does to the bodies: nothing, or they have the links, which it asks for
+-- the effect of a datagram on the bodies: none, or they have the links, which it asks for
 pub data HearsBodies (from : Endpoint) (bytes : List ℕ) (now : ℕ) (s t : Server) : Type 0 where
   same_bodies : t.bodies ≡ s.bodies → HearsBodies from bytes now s t
   links_kept : (m : CoapMessage) → Spells m bytes → is_request m ≡ true → asks_links m ≡ true

@@ -1,5 +1,5 @@
--- Which moves leave the bodies and the parts of the CoAP server: all but that a datagram is heard, and that what it asks is
--- answered.
+-- The moves that leave the bodies and the parts of the CoAP server: all but that a datagram is heard, and that its
+-- request is answered.
 use Rattle.std.proofs.Common.{◌≡◌, ◌≤◌, ℕ, List, [], ◌∷◌, map, refl, sym, ap, subst, ◌∙◌, max, inl, inr, length}
 use Rattle.std.specs.Prelude.{◌⊎◌, Option, Some, None, Bool, true, false, if◌then◌else◌}
 use Rattle.servient_base.specs.Moves.{Becomes, Each, Until, is_done, goes_on}
@@ -159,7 +159,7 @@ pub record BringsDatagram (e : EventWithBytes) : Type 0 where
 abbrev IsDatagram : What → List ℕ → Type 0
 IsDatagram w bytes = (from : Endpoint) × (size : ℕ) × (w ≡ what.Datagram from size) × (length bytes ≤ LONGEST_DATAGRAM)
 
--- what follows on anything else leaves them
+-- any other event leaves them
 follows_same : (site : Site) (w : What) (bytes : List ℕ) (s t : State) (seen : List Sighting) → Follows site w bytes s seen t
     → SameBlocks s t ⊎ IsDatagram w bytes
 follows_same site (what.Opened c) bytes s t seen on = inl (http_same s t on.0 on.2.next)

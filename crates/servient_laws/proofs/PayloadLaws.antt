@@ -101,7 +101,7 @@ tags_said u o observe short = rw fits (tag_first (version_of o) (observe_options
 
 -- ---- the tag by HTTP
 
--- what a head says that was written of an outcome
+-- the content of a head that was written of an outcome
 record HeadSays (head : List ℕ) (o : Outcome) : Type 0 where
   says : PlainReply
   spells : head ≡ http_reply says
@@ -123,7 +123,7 @@ head_says closes o head is = by (answer_of o).status is
 
 -- ---- what is sent
 
--- what a part of a trace has, the trace has
+-- the sightings of a part of a trace are in the trace
 in_whole : (x : Sighting) (a b seen : List Sighting) → seen ≡ a ++ b → Contains a x ⊎ Contains b x → Contains seen x
 in_whole x a b seen whole (inl there) = subst (λ (l : List Sighting). Contains l x) (sym whole) (Contains-append_left a b x there)
 in_whole x a b seen whole (inr there) = subst (λ (l : List Sighting). Contains l x) (sym whole) (Contains-append_right a b x there)
@@ -175,7 +175,7 @@ by_message c done s t seen answered (sent, w) = by sent w.one.1 w.other
               (does.saw ∙ ap (λ (x : List ℕ). at_network (did (act.Sent c x)) ∷ map (λ y. at_network (did y)) (if closes then act.Closed c ∷ [] else [])) parts.2)));
         }
 
--- what is written is in the trace of all
+-- the reply is in the trace of all
 pub whole_says : (m : Message) (o : Outcome) (s : State) (a c d seen : List Sighting) → seen ≡ a ++ (c ++ d) → Says m o s c → Says m o s seen
 whole_says (by_coap from ask request) o s a c d seen whole says = record {
   message = says.message;

@@ -1,4 +1,4 @@
--- What comes of a duplicate, and of a request that finds the table full.
+-- The outcome of a duplicate, and of a request that finds the table full.
 use Rattle.std.proofs.Common.{◌≡◌, ◌≤◌, ℕ, Bool, length, List, [], ◌∷◌, ◌++◌, max, true, false, refl, sym, ap, subst, ◌∙◌, arith, inl, inr}
 use Rattle.std.specs.Prelude.{◌⊎◌, Option, Contains, filter, nat_lt, if◌then◌else◌}
 use Rattle.std.specs.List.{list_any}
@@ -77,7 +77,7 @@ parts_of site from size e s t seen is short both =
       ends = step.other;
     }
 
--- what ends the event calls nothing, so if the answer calls nothing, nothing does
+-- the end of the event calls nothing, so if the answer calls nothing, nothing does
 pub nothing_done : (e : EventWithBytes) (s middle t : State) (answer rest seen : List Sighting) → seen ≡ at_network (heard e) ∷ answer ++ rest → EndsEvent middle rest t
     → calls_in answer ≡ [] → middle.thing ≡ s.thing → middle.directory ≡ s.directory → ActsOnNothing e s answer middle seen t
 nothing_done e s middle t answer rest seen whole ends none thing directory =
@@ -189,7 +189,7 @@ same_watchers : (kind : RequestType) (s : Server) → (with_id_used kind s).watc
 same_watchers Confirmable s = refl
 same_watchers NonConfirmable s = refl
 
--- what it met isn't another verdict
+-- the verdict that it met isn't another
 not_refused : (exchanges : ℕ) (history : List Arrival) (from : Endpoint) (bytes : List ℕ) (now : ℕ) (m n : CoapMessage) (v : Verdict) → Spells m bytes → Spells n bytes
     → verdict exchanges (admitted_among exchanges history) (arrival from now m) ≡ refused → verdict exchanges (admitted_among exchanges history) (arrival from now n) ≡ v → v ≡ refused
 not_refused exchanges history from bytes now m n v one other is was =

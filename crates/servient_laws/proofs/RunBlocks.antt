@@ -1,4 +1,4 @@
--- Where each body and each part of the CoAP server comes from, over a run.
+-- The origin of each body and each part of the CoAP server, over a run.
 use Rattle.std.proofs.Common.{◌≡◌, ◌-◌, ◌≤◌, ℕ, suc, List, [], ◌∷◌, ◌++◌, refl, sym, ap, ap₂, subst, ◌∙◌, max, inl, inr, length, take, drop, remove, append_assoc}
 use Rattle.std.specs.Prelude.{◌⊎◌, ◌==◌, Bool, true, false, Option, Some, None, option_map, All, if◌then◌else◌}
 use Rattle.std.proofs.lemmas.List.{append-nil}
@@ -64,7 +64,7 @@ row_stays moment [] row e none = inl none
 row_stays moment (x ∷ took) row e (inl later) = inl (row_stays (max moment x.event.moment) took row e later)
 row_stays moment (x ∷ took) row e (inr (b, rest, here, later, same)) = inr (b, rest, here, row_stays (max moment x.event.moment) took rest e later, same)
 
--- what is left of none, and of some
+-- the rest of none, and of some
 left_of_none : (row blocks : List BlockArrival) → IsLeftOf row blocks → blocks ≡ [] → row ≡ []
 left_of_none row blocks no_more none = refl
 left_of_none row blocks (stays_in a row' blocks' h) none = absurd cc
@@ -81,7 +81,7 @@ left_of_some a rest row blocks (goes_from b row' blocks' h) some =
     let others : blocks' ≡ rest = cc in
     inl (subst (IsLeftOf row') others h)
 
--- what is left of a row of blocks of a run is one
+-- the rest of a row of blocks of a run is one
 pub row_left : (moment : ℕ) (took : List EventWithBytes) (row blocks : List BlockArrival) → IsLeftOf row blocks → AreBlocksFrom moment took blocks → AreBlocksFrom moment took row
 row_left moment [] row blocks left none = left_of_none row blocks left none
 row_left moment (e ∷ es) row blocks left (inl later) = inl (row_left (max moment e.event.moment) es row blocks left later)
@@ -172,7 +172,7 @@ given_longer site exchanges epoch took es seen shown b g = record {
   moment = g.moment;
 }
 
--- what was asked is answered, and the event ends: one act is made
+-- a request is answered, and the event ends: one act is made
 pub acts_once : (site : Site) (what : PlainAsk) (ask : PendingReply) (e : EventWithBytes) (u middle t : State) (answer rest seen : List Sighting)
     (done : Done) → Answered site what ask done u answer middle → seen ≡ at_network (heard e) ∷ answer ++ rest → EndsEvent middle rest t → ActsOnce site what.request done u seen t
 acts_once site what ask e u middle t answer rest seen done a all ends =
@@ -272,7 +272,7 @@ record AfterAnswer (site : Site) (exchanges : ℕ) (epoch : Option ℕ) (took : 
   moment : middle.moment ≡ now
   bodies : All (WasGiven site exchanges epoch took seen) middle.coap.bodies
 
--- what is asked as it is gives a body at most
+-- a request that is asked as it is gives a body at most
 one_given : (P : Body → Type 0) (now : ℕ) (m : CoapMessage) (slot : ℕ) (from : Endpoint) (o : Outcome) (bodies : List Body) → All P bodies
     → P (body_of from (what_is_asked m).request.path now o) → All P (bodies_after (pending_of from now m slot).blocks from o bodies)
 one_given P now m slot from o bodies all one = by (m.code == GET)
@@ -382,7 +382,7 @@ past_events site exchanges epoch took (e ∷ es) seen shown s t past w =
     subst (λ (x : List EventWithBytes). Past site exchanges epoch x (seen ++ shown) t) (append_assoc took (e ∷ []) es)
     (subst (λ (x : List Sighting). Past site exchanges epoch ((took ++ e ∷ []) ++ es) x t) (append_assoc seen w.first w.second ∙ ap (λ (x : List Sighting). seen ++ x) (sym w.whole)) more)
 
--- what is known after each run from the start
+-- the past of each run from the start
 pub past_of : (site : Site) (exchanges : ℕ) (epoch : Option ℕ) (took : List EventWithBytes) (seen : List Sighting) (t : State) → Run site took (start site exchanges epoch) seen t → Past site exchanges epoch took seen t
 past_of site exchanges epoch took seen t run =
     past_events site exchanges epoch [] took [] seen (start site exchanges epoch) t (record {

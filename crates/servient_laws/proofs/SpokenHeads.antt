@@ -1,4 +1,5 @@
--- The head of the HTTP message that says a request: it is a head by the grammar, and its lines say what the request says.
+-- The head of the HTTP message that says a request: it is a head by the grammar, and its lines say what the request
+-- says.
 use Rattle.std.proofs.Common.{◌≡◌, ◌≢◌, ◌<◌, ◌≤◌, ◌^◌, ℕ, Bool, true, false, not, List, [], ◌∷◌, ◌++◌, append_assoc, length, map, reverse, refl, ap, ap₂, ◌∙◌, arith}
 use Rattle.std.specs.Prelude.{◌==◌, ◌&&◌, codes, decimal, IsTrue}
 use Rattle.std.specs.List.{AllByRecursion, list_all, list_any, flat_map}

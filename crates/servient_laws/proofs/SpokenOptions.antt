@@ -156,7 +156,7 @@ absence_read : (absent : Bool) (os : List CoapOption) → values_under IF_NONE_M
 absence_read true os none = refl
 absence_read false os none = ap is_there none
 
--- what the options ask is what was to be asked, where ETag counts or nothing is known
+-- the conditions that the options say are those to be asked, where ETag counts or nothing is known
 pub conditions_read : (counts : Bool) (c : Conditions) (os : List CoapOption) → IfSome c.if_match (λ tags. AllByRecursion IsVersion tags.list) → AllByRecursion IsVersion c.known.list
     → c.known.any ≡ false → (counts ≡ false → c.known.list ≡ []) → values_under IF_MATCH os ≡ [] → values_under ETAG os ≡ [] → values_under IF_NONE_MATCH os ≡ []
     → conditions_by counts (match_options c.if_match ++ (tag_options ETAG c.known.list ++ (absent_options c.absent ++ os))) ≡ c

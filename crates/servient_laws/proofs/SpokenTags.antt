@@ -258,7 +258,7 @@ none_match_is versions absent are =
     last true = λ i. record { any = true; list = append-nil versions i }
     last false = λ i. record { any = false; list = append-nil versions i }
 
--- what If-None-Match says by the verb
+-- the meaning of If-None-Match by the verb
 by_verb : (v : Verb) (c : Conditions) → c.known.any ≡ false → IsSaidByBoth v c → (c.known ≡ record { any = c.absent && reads v; list = c.known.list }) × (c.absent ≡ (c.absent && not (reads v)))
 by_verb v c named said = by v said
   where
@@ -285,7 +285,7 @@ by_verb v c named said = by v said
     by verb.Delete known = writes
     by verb.Other known = writes
 
--- what the header lines ask is what is to be asked
+-- the conditions that the header lines say are those to be asked
 pub conditions_read : (v : Verb) (c : Conditions) (rest : List (List ℕ × List ℕ)) → MayBeAsked v c → read_under (codes "if-match") rest ≡ [] → read_under (codes "if-none-match") rest ≡ []
     → conditions_of v (map name_and_value (fields (condition_lines c ++ rest))) ≡ c
 conditions_read v c rest may one two =

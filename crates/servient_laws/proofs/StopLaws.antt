@@ -46,7 +46,7 @@ each_then {S} {X} {A} P (x ∷ xs) ys s m t a b seen w more whole = record {
   whole = whole ∙ ap (λ (y : List X). y ++ b) w.whole ∙ append_assoc w.first w.second b;
 }
 
--- what is seen from one state of the Things to another are some tasks, of which these are polled
+-- the trace from one state of the Things to another is some tasks, of which these are polled
 record Tasks (site : Site) (ps : List Placed) (s : ThingState) (seen : List Sighting) (t : ThingState) : Type 0 where
   tasks : List Task
   polled : filter_map polled_in tasks ≡ ps
@@ -185,7 +185,7 @@ serves_tasks site budget result s t seen r =
 
 -- ---- stops
 
--- how often the handler in a slot was out of memory among these calls
+-- the number of times that the handler in a slot was out of memory among these calls
 abbrev missed_at : ℕ → List HandlerCall → ℕ
 missed_at slot calls = times slot (misses_in calls)
 
@@ -202,7 +202,7 @@ once slot = let t : eqb slot slot ≡ true = eq-eqb slot slot refl in rw t refl
 missed_then : (slot : ℕ) (a b seen : List HandlerCall) → seen ≡ a ++ b → missed_at slot seen ≡ missed_at slot a + missed_at slot b
 missed_then slot a b seen whole = ap (missed_at slot) whole ∙ ap (times slot) (filter_map-append miss_in a b) ∙ times_then slot (misses_in a) (misses_in b)
 
--- what ends in a miss has one
+-- a trace that ends in a miss has one
 missed_last : (slot : ℕ) (before seen : List HandlerCall) → seen ≡ before ++ missed slot ∷ [] → 1 ≤ missed_at slot seen
 missed_last slot before seen is =
     let one : missed_at slot (missed slot ∷ []) ≡ 1 = once slot in

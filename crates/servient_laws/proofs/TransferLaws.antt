@@ -1,4 +1,5 @@
--- What comes of a request that was admitted: of one that wants an act, of one for a later block, and of a block of a body.
+-- The outcome of a request that was admitted: of one that wants an act, of one for a later block, and of a block of a
+-- body.
 use Rattle.std.proofs.Common.{◌≡◌, ◌≤◌, ◌+◌, ℕ, length, List, [], ◌∷◌, ◌++◌, max, refl, sym, ap, subst, ◌∙◌, arith, inl, inr, true, false, slice_get, Option, Some, None, Bool, cond, remove}
 use Rattle.std.specs.Prelude.{◌⊎◌, ◌&&◌, IfSome, All, nat_lt, option_map, if◌then◌else◌}
 use Rattle.std.specs.List.{find}
@@ -191,7 +192,7 @@ requests_act_once site exchanges epoch from m s t e seen comes fine wants other_
 
 -- ---- a later block
 
--- what is found passes, and what holds of all holds of it
+-- an element that is found passes, and a fact of all holds of it
 found_in : (P : Body → Type 0) (test : Body → Bool) (xs : List Body) (b : Body) → All P xs → find test xs ≡ Some b → (test b ≡ true) × P b
 found_in P test [] b all e = absurd cc
 found_in P test (x ∷ xs) b all e = by (found_in P test xs b (All-tail P x xs all)) (test x) refl e
@@ -257,7 +258,7 @@ later_blocks_are_of_one_act site exchanges epoch from m b s t e seen comes fine 
 
 -- ---- blocks of a request
 
--- what becomes of a block is said by the parts of the state
+-- the parts of the state say the outcome of a block
 adds_there : (from : Endpoint) (now : ℕ) (m : CoapMessage) (b : Block) (u s : Server) (added : Added) (parts : List Part) → u.parts ≡ s.parts → Adds from now m b u added parts
     → Adds from now m b s added parts
 adds_there from now m b u s added parts same adding = record {
@@ -265,7 +266,7 @@ adds_there from now m b u s added parts same adding = record {
   parts_are = adding.parts_are ∙ ap (λ (ps : List Part). (after_block (block_arrival from now m b) (living now ps)).1) same;
 }
 
--- what is whole is a row of blocks of the run
+-- a body that is whole is a row of blocks of the run
 record IsRow (took : List EventWithBytes) (a : BlockArrival) (bytes : List ℕ) : Type 0 where
   row : List BlockArrival
   of_run : AreBlocksFrom 0 took row

@@ -1,5 +1,4 @@
--- What a device is called for, over a whole run: "input that its schema refuses reaches no handler", said of the calls
--- alone.
+-- The calls of devices, over a whole run: "input that its schema refuses reaches no handler", said of the calls alone.
 use Rattle.std.specs.Prelude.{◌≡◌, ◌≤◌, List, length, Option, Some, None, Contains, All}
 use Rattle.std.specs.List.{flat_map}
 use Rattle.wot_json.specs.Tree.{Json}
@@ -23,7 +22,7 @@ use Rattle.servient_core.specs.Machine.{Site, State, Run}
 abbrev pub IsFitValue : Placed → Json → Type 0
 IsFitValue p value = (¬ (IsRefusedBySchema (record { affordance = p; value = value }))) × (length (text_of value) ≤ longest_value)
 
--- what an action is handed: nothing, or such a value
+-- the input that an action is handed: none, or such a value
 abbrev pub IsFitInput : Placed → Option Tree → Type 0
 IsFitInput p None = Unit {0}
 IsFitInput p (Some tree) = IsFitValue p (json_of tree)

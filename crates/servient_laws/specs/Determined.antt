@@ -1,4 +1,4 @@
--- What a run leaves open: whether there was memory, and nothing else.
+-- The one thing that a run leaves open: whether there was memory.
 use Rattle.std.specs.Prelude.{◌≡◌, ℕ, List, Option, Some, Bool}
 use Rattle.std.specs.List.{AllByRecursion}
 use Rattle.coap_msg.specs.declared.endpoint.Endpoint.{Endpoint}
@@ -22,7 +22,7 @@ pub data TellsOfMemory (a : Act) : Type 0 where
   by_coap : (to : Endpoint) (head : ReplyHead) (id : ℕ) → a ≡ act.Datagram to (spelling (coap_reply (reply_of outcome.Memory) head id)) → TellsOfMemory a
   by_http : (c : ℕ) (bodiless closes : Bool) (bytes : List ℕ) → reply bodiless closes outcome.Memory ≡ Some bytes → a ≡ act.Sent c bytes → TellsOfMemory a
 
--- What was seen is no sign that memory was wanting: no such reply, and no call for which a handler was out of memory.
+-- This sighting is no sign that memory was wanting: no such reply, and no call for which a handler was out of memory.
 abbrev pub HadMemory : Sighting → Type 0
 HadMemory (at_network (heard e)) = Unit {0}
 HadMemory (at_network (did a)) = ¬ (TellsOfMemory a)
@@ -35,8 +35,8 @@ pub record Fits (answers : ℕ → Answer) (seen : List Sighting) : Type 0 where
   pub answered_so : AreAnsweredBy answers (calls_in seen)
   pub had_memory : AllByRecursion HadMemory seen
 
--- "One run, one outcome": two runs from the start with the same Things, events and answers of handlers, in both of which
--- there was memory enough, are seen alike: the same acts and the same calls, in the same order.
+-- "One run, one outcome": two runs from the start with the same Things, events and answers of handlers, in both of
+-- which there was memory enough, are seen alike: the same acts and the same calls, in the same order.
 abbrev pub RunsAreDetermined : Type 0
 RunsAreDetermined =
     (site : Site) (exchanges : ℕ) (epoch : Option ℕ) (took : List EventWithBytes) (answers : ℕ → Answer) (seen shown : List Sighting) (s t : State)

@@ -1,4 +1,4 @@
--- What failed where the top call says that a file can't be read or that the network failed.
+-- The failures where the top call says that a file can't be read or that the network failed.
 use Rattle.std.specs.Prelude.{◌≡◌, ◌⊎◌, ℕ, List, None, Option, Contains, IfSome}
 use Rattle.servient_base.specs.Count.{Rose}
 use Rattle.servient_outside.specs.declared.files.FileRead.{FileRead}

@@ -1,4 +1,4 @@
--- What the top call promises over files and an output in memory none of whose calls fails.
+-- The promise of the top call over files and an output in memory none of whose calls fails.
 use Rattle.std.specs.Prelude.{◌≡◌, ◌+◌, ◌≤◌, ℕ, true, false, List, [], length}
 use Rattle.servient_base.specs.Count.{Rose}
 use Rattle.command_words.specs.Grammar.{meaning_of}
@@ -21,8 +21,8 @@ pub record HasRoomFor (o : OutMemory) (text : List ℕ) : Type 0 where
   pub none_failed : output.fault_count o ≡ 0
   pub room : length (output.written_bytes o) + length text ≤ output.room_of o
 
--- what is known of the network: a command that doesn't use it leaves it (the clause `net` of the top call), and where one
--- does, no call failed
+-- this is known of the network: a command that doesn't use it leaves it (the clause `net` of the top call), and where
+-- one does, no call failed
 pub record NetworkHolds (words : List (List ℕ)) (before now : Around) : Type 0 where
   pub none_failed : before.outside.net.faults ≡ 0
   pub unused : is_networked (meaning_of words) ≡ false → now.outside.net ≡ before.outside.net

@@ -1,4 +1,4 @@
--- What is seen of a request that was out of memory: the one thing that the machine leaves open.
+-- The trace of a request that was out of memory: the one thing that the machine leaves open.
 use Rattle.std.specs.Prelude.{◌≡◌, ◌⊎◌, ℕ, List, [], ◌∷◌, ◌++◌}
 use Rattle.thing_ops.specs.declared.outcome.Outcome.TheVariants as outcome
 use Rattle.thing_ops.specs.Requests.{PlainRequest}

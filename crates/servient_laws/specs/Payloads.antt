@@ -1,5 +1,5 @@
--- What a reply says: by either binding the payload of the outcome and the tag of the version that was read, or by CoAP the
--- block of it that was asked for.
+-- The content of a reply: by either binding the payload of the outcome and the tag of the version that was read, or by
+-- CoAP the block of it that was asked for.
 use Rattle.std.specs.Prelude.{◌≡◌, ◌≤◌, ◌++◌, ℕ, List, [], ◌∷◌, length, Option, Some, None, Contains}
 use Rattle.coap_msg.specs.declared.constants.TheConstants.{ETAG, LONGEST_PAYLOAD}
 use Rattle.coap_msg.specs.declared.endpoint.Endpoint.{Endpoint}
@@ -33,9 +33,9 @@ abbrev pub tags_for : Option ℕ → List (List ℕ)
 tags_for None = []
 tags_for (Some version) = number_bytes version ∷ []
 
--- A datagram was sent to an endpoint whose payload is that of an outcome, where no part of it was asked for and it isn't
--- too long to be sent at once (RFC 7252, section 4.6); else the part that is to be given first (RFC 7959, section 2.4),
--- if it isn't too long for that. It has the tag of the version that was read, unless that is too long.
+-- A datagram was sent to an endpoint whose payload is that of an outcome, where no part of it was asked for and it
+-- isn't too long to be sent at once (RFC 7252, section 4.6); else the part that is to be given first (RFC 7959, section
+-- 2.4), if it isn't too long for that. It has the tag of the version that was read, unless that is too long.
 pub record SaysByCoap (from : Endpoint) (u : BlockUse) (o : Outcome) (seen : List Sighting) : Type 0 where
   pub message : CoapMessage
   pub sent : Contains seen (at_network (did (act.Datagram from (spelling message))))
@@ -43,8 +43,8 @@ pub record SaysByCoap (from : Endpoint) (u : BlockUse) (o : Outcome) (seen : Lis
   pub part : length (payload_of o) ≤ most_bytes u o → message.payload ≡ (portion_of u o).payload
   pub tags : length (payload_of o) ≤ most_bytes u o → values_under ETAG message.options ≡ tags_for (version_of o)
 
--- A reply was sent on a connection: its head, which has the tag of the version that was read, if one was (RFC 9110, section
--- 8.8.3), and after it the payload of an outcome, which a HEAD request alone isn't owed (section 9.3.2).
+-- A reply was sent on a connection: its head, which has the tag of the version that was read, if one was (RFC 9110,
+-- section 8.8.3), and after it the payload of an outcome, which a HEAD request alone isn't owed (section 9.3.2).
 pub record SaysByHttp (c : ℕ) (o : Outcome) (s : State) (seen : List Sighting) : Type 0 where
   pub connection : Connection
   pub owed : Owed
@@ -61,9 +61,9 @@ abbrev pub Says : Message → Outcome → State → List Sighting → Type 0
 Says (by_coap from ask request) o s seen = SaysByCoap from request.blocks o seen
 Says (by_http c q) o s seen = SaysByHttp c o s seen
 
--- What is sent in reply to a message has the payload of its outcome, unless that is to wait, or the part of it that is to
--- be given first, and the tag of the version that was read. So two messages of one meaning have one payload, but for that,
--- and one tag.
+-- The reply to a message has the payload of its outcome, unless that is to wait, or the part of it that is to be given
+-- first, and the tag of the version that was read. So two messages of one meaning have one payload, but for that, and
+-- one tag.
 abbrev pub PayloadsAreOfOutcomes : Type 0
 PayloadsAreOfOutcomes =
     (site : Site) (m : Message) (done : Done) (s t : State) (seen : List Sighting)

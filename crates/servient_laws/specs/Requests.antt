@@ -1,5 +1,5 @@
--- What a run does with a CoAP request that is a duplicate, or that comes while as many exchanges live as may: it acts on
--- nothing. Which requests were admitted is said of all that came in the run (coap_exchange/specs/Admission.antt).
+-- A run acts on nothing at a CoAP request that is a duplicate, or that comes while as many exchanges live as may. All
+-- that came in the run says which requests were admitted (coap_exchange/specs/Admission.antt).
 use Rattle.std.specs.Prelude.{◌≡◌, ◌⊎◌, ◌≤◌, ℕ, max, length, true, Option, List, [], ◌∷◌, ◌++◌}
 use Rattle.coap_msg.specs.declared.endpoint.Endpoint.{Endpoint}
 use Rattle.coap_msg.specs.declared.message.RequestType.TheVariants.{Confirmable}
@@ -60,8 +60,8 @@ pub record ActsOnNothing (e : EventWithBytes) (s : State) (answer : List Sightin
 abbrev pub sends_back : Endpoint → List ℕ → List Sighting
 sends_back from reply = at_network (did (act.Datagram from reply)) ∷ []
 
--- A duplicate of a request that was admitted and lives: no exchange and no watcher is added or taken away, and what is
--- sent to answer it, if anything, is the very datagram that was sent for the first.
+-- A duplicate of a request that was admitted and lives: no exchange and no observer is added or taken away, and the
+-- answer to it, if there is one, is the very datagram that was sent for the first.
 pub record ActsNoMore (exchanges : ℕ) (from : Endpoint) (m : CoapMessage) (s : State) (e : EventWithBytes) (seen : List Sighting) (t : State) : Type 0 where
   pub answer : List Sighting
   pub middle : State
@@ -74,7 +74,7 @@ pub record ActsNoMore (exchanges : ℕ) (from : Endpoint) (m : CoapMessage) (s :
       × (request_type m.kind ≡ Confirmable) × (first.kind ≡ Confirmable)
       × WasRepliedTo (nothing_came exchanges watchers) first bytes s.coap)
 
--- One that finds as many exchanges alive as may: one datagram is sent back, and no exchange and no watcher is added.
+-- One that finds as many exchanges alive as may: one datagram is sent back, and no exchange and no observer is added.
 pub record IsTurnedAway (from : Endpoint) (s : State) (e : EventWithBytes) (seen : List Sighting) (t : State) : Type 0 where
   pub reply : List ℕ
   pub middle : State

@@ -1,5 +1,5 @@
--- A run in which the handlers forget their turns now and then keeps the laws of whole runs: it is one run of the machine over
--- all its events, and the sections in which the outside shows it are joined to its trace.
+-- A run in which the handlers forget their turns now and then keeps the laws of whole runs: it is one run of the
+-- machine over all its events, and the sections in which the outside shows it are joined to its trace.
 use Rattle.std.specs.Prelude.{◌≡◌, ℕ, Option, List, ◌∷◌, ◌++◌, All}
 use Rattle.coap_msg.specs.declared.endpoint.Endpoint.{Endpoint}
 use Rattle.coap_msg.specs.Grammar.{CoapMessage}
@@ -15,14 +15,14 @@ use Rattle.servient_core.specs.Sections.{Shown, seen_in, ServesInSections}
 use Rattle.servient_laws.specs.Calls.{IsFit}
 use Rattle.servient_laws.specs.Requests.{Brings, moment_of, ActsNoMore, IsTurnedAway}
 
--- what this verdict on a request that an event brings leads to
+-- this verdict on a request that an event brings leads here
 abbrev pub LeadsTo : Verdict → Site → ℕ → List EventWithBytes → EventWithBytes → State → (Endpoint → CoapMessage → Type 0) → Type 0
 LeadsTo v site exchanges first e s Outcome =
     (from : Endpoint) (m : CoapMessage) (history : List Arrival) → AreRequestsFrom 0 first history → Brings from m e
     → verdict exchanges (admitted_among exchanges history) (arrival from (moment_of s e) m) ≡ v → Outcome from m
 
--- After these events this one is taken, and what is seen of that stands in the trace: a repeated request acts no more,
--- and one that finds as many exchanges alive as may is turned away.
+-- After these events this one is taken, and the sightings of that stand in the trace: a duplicate of a request acts no
+-- more, and a request that finds as many exchanges alive as may is turned away.
 pub record TakesAmong (site : Site) (exchanges : ℕ) (epoch : Option ℕ) (first : List EventWithBytes) (e : EventWithBytes) (trace : List Sighting) : Type 0 where
   pub s : State
   pub t : State
@@ -35,7 +35,8 @@ pub record TakesAmong (site : Site) (exchanges : ℕ) (epoch : Option ℕ) (firs
   pub repeats : LeadsTo duplicate site exchanges first e s (λ from m. ActsNoMore exchanges from m s e seen t)
   pub full : LeadsTo refused site exchanges first e s (λ from m. IsTurnedAway from s e seen t)
 
--- Each event of such a run is taken so, whatever was forgotten before it, and each call of the run is fit for its device.
+-- Each event of such a run is taken so, whatever was forgotten before it, and each call of the run is fit for its
+-- device.
 abbrev pub SectionsKeepPromises : Type 0
 SectionsKeepPromises =
     (site : Site) (bounds : RunBounds) (exchanges : ℕ) (epoch : Option ℕ) (result : SectionsEnd) (shown : List Shown) (end : State)

@@ -1,5 +1,5 @@
--- That a request which both bindings can say is read from a message of either: so that operations have one meaning by
--- both is said of something.
+-- A request that both bindings can say is read from a message of either, so that the law of one meaning by both is said
+-- of something.
 use Rattle.std.specs.Prelude.{◌≡◌, ◌≢◌, ◌≤◌, ◌<◌, ◌^◌, ℕ, List, [], ◌∷◌, ◌++◌, length, map, codes, decimal, Bool, true, false, IsSome, IfSome, Option, Some, None, unwrap_or, if◌then◌else◌}
 use Rattle.std.specs.List.{AllByRecursion, flat_map}
 use Rattle.httparse.specs.Grammar.{RequestHead, crlf, print_request}
@@ -30,8 +30,9 @@ use Rattle.http_bind.specs.Streams.{asks, to_take}
 abbrev pub IsVersion : ℕ → Type 0
 IsVersion v = (1 ≤ v) × (v < 2 ^ 32)
 
--- What both bindings can say with a verb: of a GET that versions are known, and of another request that nothing was to
--- be there. HTTP alone has versions in If-None-Match of a write, and `*` of a GET; CoAP alone has If-None-Match of a GET.
+-- The conditions that both bindings can say with a verb: of a GET that versions are known, and of another request that
+-- nothing was to be there. HTTP alone has versions in If-None-Match of a write, and `*` of a GET; CoAP alone has
+-- If-None-Match of a GET.
 abbrev pub IsSaidByBoth : Verb → Conditions → Type 0
 IsSaidByBoth verb.Get c = c.absent ≡ false
 IsSaidByBoth verb.Head c = (c.absent ≡ false) × (c.known.list ≡ [])
@@ -54,8 +55,8 @@ pub record MayBeAsked (v : Verb) (c : Conditions) : Type 0 where
 abbrev pub tag_options : ℕ → List ℕ → List CoapOption
 tag_options number versions = map (λ v. (number, number_bytes v)) versions
 
--- If-Match (section 5.10.8.1): of no bytes where any version is asked for, and else of a byte that names none; and one for
--- each version
+-- If-Match (section 5.10.8.1): of no bytes where any version is asked for, and else of a byte that names none; and one
+-- for each version
 abbrev pub match_options : Option Tags → List CoapOption
 match_options None = []
 match_options (Some tags) = (IF_MATCH, if tags.any then [] else 0 ∷ []) ∷ tag_options IF_MATCH tags.list
@@ -149,8 +150,8 @@ header_lines f json td size = (codes "Host", codes "thing") ∷ (codes "Content-
 abbrev pub tag_lines : List ℕ → List ℕ → List (List ℕ × List ℕ)
 tag_lines name versions = map (λ v. (name, entity_tag v)) versions
 
--- If-Match (RFC 9110, section 13.1.1): a line with `*` where any version is asked for, and else one with nothing; and one
--- for each version
+-- If-Match (RFC 9110, section 13.1.1): a line with `*` where any version is asked for, and else one with nothing; and
+-- one for each version
 abbrev pub match_lines : Option Tags → List (List ℕ × List ℕ)
 match_lines None = []
 match_lines (Some tags) = (codes "If-Match", if tags.any then codes "*" else []) ∷ tag_lines (codes "If-Match") tags.list
@@ -182,15 +183,15 @@ http_head q = record {
 abbrev pub http_message : PlainRequest → List ℕ
 http_message q = print_request (http_head q) ++ q.body
 
--- What is at the front of it is taken for that.
+-- The front of it is taken for that message.
 abbrev pub IsReadByHttp : PlainRequest → Type 0
 IsReadByHttp q = (f : Front) × IsFront (http_message q) f × (to_take false f ≡ Some (asks q))
 
 -- ---- the law
 
 -- Both bindings can say a request: it has no query, its verb has a code, its format isn't that of a merge patch, its
--- path is one of segments of at most 255 bytes, and isn't the one empty segment; both can say what it asks of versions; and
--- it fits into messages of both.
+-- path is one of segments of at most 255 bytes, and isn't the one empty segment; both can say what it asks of versions;
+-- and it fits into messages of both.
 pub record IsSpeakable (q : PlainRequest) : Type 0 where
   pub verb : IsSome (code_of q.verb)
   pub query : q.query ≡ []

@@ -1,5 +1,5 @@
--- How often a handler was out of memory over a whole run: the polls that were left out and the operations that stopped at
--- it are together at most as many as its count of misses rose by.
+-- The times that a handler was out of memory over a whole run: the polls that were left out and the operations that
+-- stopped at it are together at most as many as its count of misses rose by.
 use Rattle.std.specs.Prelude.{◌≡◌, ◌<◌, ◌≤◌, ◌+◌, ◌-◌, ◌^◌, ◌⊎◌, ℕ, List, [], ◌∷◌, ◌++◌, Option, Some, None, slice_get}
 use Rattle.std.specs.List.{filter_map, flat_map}
 use Rattle.servient_base.specs.Moves.{Stays, Then, Each}
@@ -34,7 +34,7 @@ abbrev pub polled_in : Task → Option Placed
 polled_in (polls p emissions) = Some p
 polled_in (acts q done) = None
 
--- what is polled when this comes: by a tick all event affordances, in order, each once
+-- the affordances that are polled when this comes: by a tick all event affordances, in order, each once
 abbrev pub polled_by : Site → What → List Placed
 polled_by site what.Tick = events_of site
 polled_by site other = []
@@ -68,8 +68,8 @@ CountsTasks site slot (task ∷ tasks) n s seen t =
 abbrev pub RoseAtLeast : ℕ → ℕ → ℕ → Type 0
 RoseAtLeast n before now = (before + n ≤ now) ⊎ (2 ^ 64 - 1 ≤ now)
 
--- What serving does with the Things are such tasks, and of each handler: however many of them are counted that stop at
--- it, its count of misses rose by as many at least.
+-- Serving does such tasks with the Things, and of each handler: however many of them are counted that stop at it, its
+-- count of misses rose by as many at least.
 abbrev pub StopsAreCounted : Type 0
 StopsAreCounted =
     (site : Site) (budget : ℕ) (result : Served) (s t : State) (seen : List Sighting) (before now : Outside)

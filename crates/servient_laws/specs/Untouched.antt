@@ -1,4 +1,4 @@
--- What the top call leaves alone, by its words and its status.
+-- The parts that the top call leaves alone, by its words and its status.
 use Rattle.std.specs.Prelude.{◌≡◌, ◌⊎◌, ℕ, Bool, true, false, List, [], Option, Some}
 use Rattle.thing_site.specs.Exposing.{kinds_of}
 use Rattle.command_words.specs.Grammar.{meaning_of}
@@ -14,7 +14,7 @@ use Rattle.servient_cli.specs.Command.{Commands, EndsAndReports, Ends, IsNoComma
 abbrev pub TookNothing : List Deed → Type 0
 TookNothing seen = events_in (happened_in (sightings_in seen)) ≡ []
 
--- What the top call promises, `Ends`, where this is known besides of what it did.
+-- The promise of the top call, `Ends`, where this is known besides of its deeds.
 abbrev pub EndsSo : (List Deed → Type 0) → List (List ℕ) → Around → Around → OutSeen → OutSeen → ℕ → Type 0
 EndsSo Known words before now out out_now result =
     EndsAndReports (λ seen o. Commands before.files.held (kinds_of before.outside.slots) words seen o × Known seen) before now out out_now result

@@ -13,8 +13,8 @@ ghost use Rattle.servient_laws.specs.Untouched.{FaultsTakeNoEvent, HandlersStay}
 ghost use Rattle.servient_laws.specs.Requests.{RepeatsActOnce, FullTablesActOnNothing};
 ghost use Rattle.servient_laws.specs.Sections.{SectionsKeepPromises};
 
-/// A duplicate of a request that was admitted and lives calls no handler, changes nothing, and is answered with the very
-/// datagram that was sent for the first, if with any (RFC 7252, section 4.5).
+/// A duplicate of a request that was admitted and lives calls no handler, changes nothing, and is answered with the
+/// very datagram that was sent for the first, if with any (RFC 7252, section 4.5).
 pub fn repeats_act_once()
     ensures { RepeatsActOnce }
 {}
@@ -30,14 +30,14 @@ pub fn calls_are_fit()
     ensures { CallsAreFit }
 {}
 
-/// A run in which the handlers forget their turns now and then keeps these three: it is one run of the machine over all its
-/// events, whatever was forgotten between them.
+/// A run in which the handlers forget their turns now and then keeps these three: it is one run of the machine over all
+/// its events, whatever was forgotten between them.
 pub fn sections_keep_promises()
     ensures { SectionsKeepPromises }
 {}
 
-/// A request that was out of memory made no call and left the Things as they were, or the last thing seen of it is that the
-/// handler which was to be called next was out of memory.
+/// A request that was out of memory made no call and left the Things as they were, or the last thing seen of it is that
+/// the handler which was to be called next was out of memory.
 pub fn memory_is_seen()
     ensures { MemoryIsSeen }
 {}
@@ -48,8 +48,8 @@ pub fn stops_are_counted()
     ensures { StopsAreCounted }
 {}
 
-/// Two runs from the start with the same Things, events and answers of handlers, in both of which there was memory enough,
-/// do the same, act by act and call by call: so the machine leaves nothing open but memory.
+/// Two runs from the start with the same Things, events and answers of handlers, in both of which there was memory
+/// enough, do the same, act by act and call by call, so that the machine leaves nothing open but memory.
 pub fn runs_are_determined()
     ensures { RunsAreDetermined }
 {}
@@ -59,8 +59,8 @@ pub fn faults_take_no_event()
     ensures { FaultsTakeNoEvent }
 {}
 
-/// Where the status is 3, reading a file failed, which the files' count records, or a file that was read isn't there; where it
-/// is 6, a call of the network failed, which its count records.
+/// Where the status is 3, reading a file failed, which the files' count records, or a file that was read isn't there;
+/// where it is 6, a call of the network failed, which its count records.
 pub fn failures_are_counted()
     ensures { FailuresAreCounted }
 {}
@@ -70,40 +70,40 @@ pub fn handlers_stay()
     ensures { HandlersStay }
 {}
 
-/// Over files and an output in memory none of whose calls fails, with room for what the command writes, nothing failed
-/// of what the clause `complete` of the top call asks about.
+/// Over files and an output in memory none of whose calls fails, with room for the text that the command writes, there
+/// is no failure of those that the clause `complete` of the top call asks about.
 pub fn nothing_fails_in_memory()
     ensures { NothingFailsInMemory }
 {}
 
-/// What is sent in reply to a message says the payload of its outcome: by CoAP unless it is given in blocks or too long for
-/// a datagram, by HTTP unless the request was HEAD; and the tag of the version that was read. So two messages of one meaning
-/// are replied to with one payload and one tag.
+/// The reply to a message says the payload of its outcome: by CoAP unless it is given in blocks or too long for a
+/// datagram, by HTTP unless the request was HEAD; and the tag of the version that was read. So two messages of one
+/// meaning are replied to with one payload and one tag.
 pub fn payloads_are_of_outcomes()
     ensures { PayloadsAreOfOutcomes }
 {}
 
-/// Each request that both bindings can say, what it asks of versions included, is read from a message of either: so that an
-/// operation has one meaning by both is said of something.
+/// Each request that both bindings can say, its conditions included, is read from a message of either, so that the law
+/// of one meaning by both is said of something.
 pub fn requests_are_spoken()
     ensures { RequestsAreSpoken }
 {}
 
-/// A CoAP request that is admitted and wants an act makes one, and what is sent says its payload, or the part of it that
+/// A CoAP request that is admitted and wants an act makes one, and the reply says its payload, or the part of it that
 /// is to be given first; or it is out of memory, and makes none.
 pub fn requests_act_once()
     ensures { RequestsActOnce }
 {}
 
-/// Each later block of a response that is sent to an endpoint for a path is the part, from its number times its size on, of
-/// one payload: that of one act, made on a request of that endpoint for that path less than 247,000 ms before. None is
-/// made for it (RFC 7959, section 2.4).
+/// Each later block of a response that is sent to an endpoint for a path is the part, from its number times its size
+/// on, of one payload: that of one act, made on a request of that endpoint for that path less than 247,000 ms before.
+/// None is made for it (RFC 7959, section 2.4).
 pub fn later_blocks_are_of_one_act()
     ensures { LaterBlocksAreOfOneAct }
 {}
 
-/// The last block of a request's body leads to one act, on the payloads joined of blocks that came in their order, all of
-/// one endpoint, code and path; each before it, and each that isn't taken, leads to none (RFC 7959, section 2.5).
+/// The last block of a request's body leads to one act, on the payloads joined of blocks that came in their order, all
+/// of one endpoint, code and path; each before it, and each that isn't taken, leads to none (RFC 7959, section 2.5).
 pub fn joined_bodies_act_once()
     ensures { JoinedBodiesActOnce }
 {}

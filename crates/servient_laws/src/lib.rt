@@ -4,10 +4,11 @@
 //! it. They stand in a crate of their own above `servient_core`, so that a further one proves nothing anew.
 //!
 //! - A CoAP request that comes again within its exchange lifetime acts once: `repeats_act_once`.
-//! - A request that is admitted and wants an act makes one: `requests_act_once`; each later block that is sent is of what
-//!   one act gave, `later_blocks_are_of_one_act`, and the blocks of a body lead to one act, `joined_bodies_act_once`.
+//! - A request that is admitted and wants an act makes one: `requests_act_once`; each later block that is sent is of
+//!   one act's payload, `later_blocks_are_of_one_act`, and the blocks of a body lead to one act,
+//!   `joined_bodies_act_once`.
 //! - A full table of exchanges acts on nothing: `full_tables_act_on_nothing`.
-//! - What its schema refuses reaches no device: `calls_are_fit`, said of the calls alone.
+//! - A value that its schema refuses reaches no device: `calls_are_fit`, said of the calls alone.
 //! - A run that forgets keeps these three, `sections_keep_promises`.
 //! - A request that was out of memory made no call, or ended at a handler that was: `memory_is_seen`.
 //! - Polls that were left out and operations that stopped at a handler are counted as its misses: `stops_are_counted`.

@@ -16,7 +16,7 @@ use Rattle.servient_outside.specs.Order.{made_after, breaks_after}
 use Rattle.servient_outside.specs.Network.{Happening, did, broke, listening, break_count, Leaves, NetShows}
 use Rattle.servient_outside.specs.NetMemory.{told_history, left_events, net_seen, KeepsEvents, GoesOnBy, IsCall, IsNoCall}
 
--- what is recorded is recorded still, where no more is untold
+-- a record stays, where no more is untold
 pub told_still : {A : Type 0} (a b : ℕ) (x y : A) → b ≡ a → IsSome (told_at_zero a x) → IsSome (told_at_zero b y)
 told_still zero zero x y same was = refl
 told_still zero (suc b) x y same was = absurd (omega arith)

@@ -27,7 +27,7 @@ in_buffer-prefix e copied rest same fits =
     with_bytes : Event → List ℕ → EventWithBytes
     with_bytes event bytes = record { event = event; bytes = bytes }
 
--- what is left begins with the event at the place that was reached
+-- the rest begins with the event at the place that was reached
 drop-at_item : (all : List EventWithBytes) (given : ℕ) (e : EventWithBytes) → slice_get all given ≡ Some e → drop given all ≡ e ∷ drop (given + 1) all
 drop-at_item all given e item =
     let within : given < length all = slice_get_within all given e item in
@@ -79,7 +79,7 @@ all_counted fails events given since uncounted now none counted reached within f
     let below : since < 2 ^ 64 - 1 = omega (arith, reached none within) in
     same below ∙ counted
 
--- what is recorded where nothing is lost continues as it was
+-- a record where nothing is lost continues as it was
 pub continues_told : {A : Type 0} (untold : ℕ) (old new more : List A) → new ≡ old ++ more → Continues (told_at_zero untold old) (told_at_zero untold new) more
 continues_told zero old new more grown = (old, refl, grown)
 continues_told (suc untold) old new more grown = tt
@@ -104,7 +104,7 @@ pub none_fails : (fails later : List ℕ) (number : ℕ) → later ≡ fails →
 none_fails [] later number same none is = let never : false ≡ true = is in absurd cc
 none_fails (f ∷ fails) later number same none is = let never : f ∷ fails ≡ [] = sym same ∙ none in absurd cc
 
--- what happened has a call of `next` more, where it was counted
+-- the happenings have a call of `next` more, where it was counted
 pub history_called : (gaps : List ℕ) (acts : List Act) (fails later : List ℕ) (events : List EventWithBytes) (stop : EventWithBytes) (made uncounted now lost since since_now : ℕ) (h : Happening)
     → (now ≡ 0 → (uncounted ≡ 0) × (since < 2 ^ 64 - 1)) → since_now ≡ one_more since → later ≡ fails → length gaps ≡ length acts
     → (uncounted ≡ 0 → lost ≡ 0 → made ≡ made_by (steps gaps acts since) 0)
@@ -128,7 +128,7 @@ history_called gaps acts fails later events stop made uncounted zero zero since 
     subst (λ (k : ℕ). Continues (told_at_zero k (happened_by fails events stop (steps gaps acts since) 0 0)) (told_at_zero (0 + 0) (happened_by later events stop (steps gaps acts since_now) 0 0)) (h ∷ [])) none
     (continues_told 0 _ _ (h ∷ []) grown)
 
--- how many calls were made after one more call of `next`
+-- the number of calls after one more call of `next`
 pub made_called : (gaps : List ℕ) (acts : List Act) (made made_now since since_now : ℕ) → length gaps ≡ length acts → since_now ≡ suc since → made_now ≡ one_more made
     → made ≡ made_by (steps gaps acts since) 0 → made_now ≡ made_by (steps gaps acts since_now) 0
 made_called gaps acts made made_now since since_now few next more placed =
@@ -138,7 +138,7 @@ made_called gaps acts made made_now since since_now few next more placed =
     ∙ ap (λ (xs : List Step). made_by xs 0) (sym (steps_asked gaps acts since few))
     ∙ ap (λ (n : ℕ). made_by (steps gaps acts n) 0) (sym next)
 
--- how many events were given after one more call of `next`
+-- the number of events given after one more call of `next`
 pub given_called : (gaps : List ℕ) (acts : List Act) (fails later : List ℕ) (made since since_now : ℕ) → length gaps ≡ length acts → later ≡ fails → since_now ≡ suc since → made ≡ made_by (steps gaps acts since) 0
     → given_by later (steps gaps acts since_now) 0 0 ≡ given_after fails made (given_by fails (steps gaps acts since) 0 0)
 given_called gaps acts fails later made since since_now few same next placed =
@@ -148,7 +148,7 @@ given_called gaps acts fails later made since since_now few same next placed =
     ∙ given_by-append fails (steps gaps acts since) (asked ∷ []) 0 0
     ∙ ap (λ (n : ℕ). given_after fails n (given_by fails (steps gaps acts since) 0 0)) (sym placed)
 
--- what happened has an act more, which was kept
+-- the happenings have an act more, which was kept
 pub history_did : (gaps later : List ℕ) (acts more : List Act) (fails : List ℕ) (events : List EventWithBytes) (stop : EventWithBytes) (made uncounted lost now since since_now : ℕ) (act : Act)
     → (uncounted ≡ 0 → lost ≡ 0 → made ≡ made_by (steps gaps acts since) 0) → length gaps ≡ length acts → later ≡ gaps ++ since ∷ [] → more ≡ acts ++ act ∷ [] → now ≡ lost → since_now ≡ 0
     → Continues (told_at_zero (uncounted + lost) (happened_by fails events stop (steps gaps acts since) 0 0)) (told_at_zero (uncounted + now) (happened_by fails events stop (steps later more since_now) 0 0)) (did act ∷ breaks_after fails made act)
@@ -169,7 +169,7 @@ history_did gaps later acts more fails events stop made zero zero now since sinc
     subst (λ (k : ℕ). Continues (told_at_zero (0 + 0) (happened_by fails events stop (steps gaps acts since) 0 0)) (told_at_zero k (happened_by fails events stop (steps later more since_now) 0 0)) (did act ∷ breaks_after fails made act)) none_lost
     (continues_told 0 _ _ (did act ∷ breaks_after fails made act) longer)
 
--- how many calls were made after one more act
+-- the number of calls after one more act
 pub made_did : (gaps later : List ℕ) (acts more : List Act) (made since since_now : ℕ) (act : Act) → length gaps ≡ length acts → later ≡ gaps ++ since ∷ [] → more ≡ acts ++ act ∷ [] → since_now ≡ 0
     → made ≡ made_by (steps gaps acts since) 0 → made_after act made ≡ made_by (steps later more since_now) 0
 made_did gaps later acts more made since since_now act few grown kept none placed =
@@ -180,7 +180,7 @@ made_did gaps later acts more made since since_now act few grown kept none place
     ∙ ap (λ (gs : List ℕ). made_by (steps gs more 0) 0) (sym grown)
     ∙ ap (λ (n : ℕ). made_by (steps later more n) 0) (sym none)
 
--- how many events were given after one more act
+-- the number of events given after one more act
 pub given_did : (gaps later : List ℕ) (acts more : List Act) (fails : List ℕ) (since since_now : ℕ) (act : Act) → length gaps ≡ length acts → later ≡ gaps ++ since ∷ [] → more ≡ acts ++ act ∷ [] → since_now ≡ 0
     → given_by fails (steps later more since_now) 0 0 ≡ given_by fails (steps gaps acts since) 0 0
 given_did gaps later acts more fails since since_now act few grown kept none =
@@ -190,7 +190,7 @@ given_did gaps later acts more fails since since_now act few grown kept none =
     ∙ ap (λ (xs : List Step). given_by fails xs 0 0) (steps_acted gaps acts since act few)
     ∙ given_by-append fails (steps gaps acts since) (acted act ∷ []) 0 0
 
--- what is left loses the event at the place that was reached
+-- the rest loses the event at the place that was reached
 pub TakesFrom-at_item : (all : List EventWithBytes) (given stop_moment : ℕ) (e : EventWithBytes) (buffer : List ℕ) → slice_get all given ≡ Some e → in_buffer e.event buffer ≡ e → TakesFrom (drop given all) (drop (given + 1) all) stop_moment (Got e.event) buffer
 TakesFrom-at_item all given stop_moment e buffer item same =
     subst (λ (xs : List EventWithBytes). TakesFrom xs (drop (given + 1) all) stop_moment (Got e.event) buffer) (sym (drop-at_item all given e item))

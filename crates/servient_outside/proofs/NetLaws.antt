@@ -21,11 +21,11 @@ leaves_then (broke call ∷ a) b (Some (x ∷ rest)) second third p q = (p.0, le
 leaves_then (broke call ∷ a) b (Some []) second third p q = tt
 leaves_then (broke call ∷ a) b None second third p q = tt
 
--- where nothing happened
+-- nothing happened
 pub net_shows_none : (w : NetSeen) → NetShows w w []
 net_shows_none w = record { history = continues_same w.history; left = refl; faults = omega arith }
 
--- what happened at one time and then at another
+-- happenings of one time and then of another
 pub net_shows_then : (w v u : NetSeen) (a b : List Happening) → NetShows w v a → NetShows v u b → NetShows w u (a ++ b)
 net_shows_then w v u a b p q = record {
   history = continues_then w.history v.history u.history a b p.history q.history;

@@ -1,4 +1,4 @@
--- What happened at a network in memory, as its calls and the acts come one by one.
+-- The happenings at a network in memory, as its calls and the acts come one by one.
 use Rattle.std.proofs.Common.{◌≡◌, ℕ, zero, suc, ◌≤◌, ◌<◌, List, [], ◌∷◌, ◌++◌, length, refl, sym, ap, ◌∙◌, arith, append_assoc, true, false}
 use Rattle.std.proofs.lemmas.List.Elements.{filter_map-append}
 use Rattle.std.specs.Prelude.{if◌then◌else◌, slice_get, unwrap_or, min, Some, None, Option, Bool}

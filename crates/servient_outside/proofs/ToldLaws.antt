@@ -4,12 +4,12 @@ use Rattle.std.proofs.lemmas.List.{append-nil}
 use Rattle.std.proofs.lemmas.Option.{same_Some}
 use Rattle.servient_outside.specs.Told.{Continues}
 
--- what stayed as it was continues by nothing
+-- a record that stayed as it was continues by nothing
 pub continues_same : {A : Type 0} (told : Option (List A)) → Continues told told []
 continues_same None = tt
 continues_same (Some all) = (all, refl, sym (append-nil all))
 
--- what continued twice continued by both
+-- a record that continued twice continued by both
 pub continues_then : {A : Type 0} (a b c : Option (List A)) (xs ys : List A) → Continues a b xs → Continues b c ys → Continues a c (xs ++ ys)
 continues_then a b None xs ys p q = tt
 continues_then a None (Some z) xs ys p q = absurd cc

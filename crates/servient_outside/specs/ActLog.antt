@@ -1,4 +1,4 @@
--- What keeping an act does to the acts that are kept.
+-- The effect of keeping an act on the acts that are kept.
 use Rattle.std.specs.Prelude.{◌≡◌, [], ◌∷◌, ◌++◌, ◌⊎◌, Result, Ok, Err}
 use Rattle.std.specs.declared.alloc.AllocError.{AllocError}
 use Rattle.servient_base.specs.Count.{one_more}

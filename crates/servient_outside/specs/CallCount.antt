@@ -25,7 +25,7 @@ abbrev pub none_fails : List ℕ → Bool
 none_fails [] = true
 none_fails (f ∷ fails) = false
 
--- what is recorded where no call fails
+-- the record where no call fails
 abbrev pub where_none_fails : {A : Type 0} → List ℕ → Option A → Option A
 where_none_fails [] told = told
 where_none_fails (f ∷ fails) told = None

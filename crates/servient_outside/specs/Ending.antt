@@ -1,5 +1,5 @@
--- How a network in memory ends: with a Stop after its events. It is put there when the network is made, so that giving
--- it takes no memory; where the events have a Stop, nothing comes after that.
+-- The end of a network in memory: a Stop after its events. It is put there when the network is made, so that giving it
+-- takes no memory; where the events have a Stop, nothing comes after that.
 use Rattle.std.specs.Prelude.{ℕ, ◌-◌, List, [], ◌∷◌, ◌++◌, length, slice_get, option_map, unwrap_or}
 use Rattle.servient_outside.specs.declared.net.What.TheVariants.{Stop}
 use Rattle.servient_outside.specs.declared.net.Event.{Event}

@@ -1,4 +1,4 @@
--- What is seen of files: a read, and what the files record of it.
+-- The view of files: a read, and the record of it that the files have.
 use Rattle.std.specs.Prelude.{◌≡◌, ◌≤◌, ◌<◌, ℕ, Bool, true, List, [], ◌∷◌, Option, Some, None, IfSome, IsSomeAnd, length, if◌then◌else◌}
 use Rattle.std.specs.Str.{bytes_eq}
 use Rattle.servient_outside.specs.declared.files.Got.{Got}
@@ -13,8 +13,8 @@ abbrev pub content_of : List HeldFile → List ℕ → Option (List ℕ)
 content_of [] name = None
 content_of (file ∷ files) name = if bytes_eq file.name name then Some file.bytes else content_of files name
 
--- What a read says of the file of this name, where what the files hold is recorded: all of it is in `into` and
--- isn't longer than the limit, or there is no such file, or its content is longer than the limit.
+-- A read answers so of the file of this name, where the content of files is recorded: all of it is in `into` and isn't
+-- longer than the limit, or there is no such file, or its content is longer than the limit.
 abbrev pub AnswersRead : Option (List HeldFile) → List ℕ → ℕ → Got → List ℕ → Type 0
 AnswersRead held name limit Whole into =
     (length into ≤ limit) × IfSome held (λ files. content_of files name ≡ Some into)
@@ -32,8 +32,8 @@ added_reads name limit Absent = record { name = name; limit = limit } ∷ []
 added_reads name limit TooLong = record { name = name; limit = limit } ∷ []
 added_reads name limit Failed = record { name = name; limit = limit } ∷ []
 
--- What is seen of files at one time: what they hold and which reads were made, where they record it, how often a read
--- failed, and whether it is known that none fails from now on.
+-- The view of files at one time: their content and the reads that were made, where they record it, the number of reads
+-- that failed, and whether it is known that none fails from now on.
 pub record FilesSeen : Type 0 where
   pub held : Option (List HeldFile)
   pub reads : Option (List FileRead)

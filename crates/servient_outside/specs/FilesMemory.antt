@@ -1,4 +1,4 @@
--- What is seen of files in memory. A read is recorded before it is answered; one that can't be recorded is none.
+-- The view of files in memory. A read is recorded before it is answered; one that can't be recorded is none.
 use Rattle.std.specs.Prelude.{ℕ, List, Some}
 use Rattle.servient_outside.specs.declared.calls.CallCount.{CallCount}
 use Rattle.servient_outside.specs.declared.files.HeldFile.{HeldFile}
@@ -11,7 +11,7 @@ use Rattle.servient_outside.specs.Files.{FilesSeen}
 abbrev pub calls_of : FilesMemory → CallCount
 calls_of f = f.calls
 
--- what they hold
+-- their content
 abbrev pub held_files : FilesMemory → List HeldFile
 held_files f = f.held
 
@@ -19,7 +19,7 @@ held_files f = f.held
 abbrev pub listed_reads : FilesMemory → List FileRead
 listed_reads f = f.reads.items
 
--- how often a read failed
+-- the number of reads that failed
 abbrev pub fault_count : FilesMemory → ℕ
 fault_count f = f.faults
 

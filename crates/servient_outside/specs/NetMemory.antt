@@ -1,6 +1,6 @@
--- What is seen of a network in memory. It keeps how many calls of `next` came before each act, and what happened
--- follows from that, its events and the numbers of the calls that fail (Order.antt), because a second list would take
--- memory. So it records what happened wherever no act was lost, also where calls fail.
+-- The view of a network in memory. It keeps the number of calls of `next` that came before each act, and its happenings
+-- follow from that, its events and the numbers of the calls that fail (Order.antt), because a second list would take
+-- memory. So it records them wherever no act was lost, also where calls fail.
 use Rattle.std.specs.Prelude.{◌≡◌, ◌<◌, ◌+◌, ◌-◌, ◌^◌, ℕ, suc, nat_lt, List, [], ◌∷◌, ◌++◌, ◌⊎◌, Option, Some, None, IsSome, drop, if◌then◌else◌}
 use Rattle.coap_msg.specs.declared.endpoint.Endpoint.{Endpoint}
 use Rattle.servient_base.specs.Count.{one_more}
@@ -27,7 +27,7 @@ use Rattle.servient_outside.specs.Ending.{last_moment, stop_event, with_stop}
 abbrev pub calls_of : NetMemory → CallCount
 calls_of n = n.calls
 
--- what is left of its list, the Stop at the end with it
+-- the rest of its list, the Stop at the end with it
 abbrev pub rest_of : NetMemory → List EventWithBytes
 rest_of n = drop n.given n.events
 
@@ -39,7 +39,7 @@ stop_moment_of n = n.stop_moment
 abbrev pub stop_of : NetMemory → EventWithBytes
 stop_of n = record { event = stop_event (stop_moment_of n); bytes = [] }
 
--- how many connections were dialled
+-- the number of connections that were dialled
 abbrev pub connected_count : NetMemory → ℕ
 connected_count n = n.connected
 
@@ -47,12 +47,12 @@ connected_count n = n.connected
 abbrev pub kept_acts : NetMemory → List Act
 kept_acts n = n.log.acts.items
 
--- how many acts were lost out of memory
+-- the number of acts that were lost out of memory
 abbrev pub lost_acts : NetMemory → ℕ
 lost_acts n = n.log.lost
 
--- What happened, as long as no act was lost. A call of `next` after 2 ^ 64 - 1 others without an act between them isn't
--- recorded.
+-- The happenings, as long as no act was lost. A call of `next` after 2 ^ 64 - 1 others without an act between them
+-- isn't recorded.
 abbrev pub told_history : NetMemory → Option (List Happening)
 told_history n =
     told_at_zero (n.uncounted + lost_acts n)
@@ -62,11 +62,11 @@ told_history n =
 abbrev pub left_events : NetMemory → Option (List EventWithBytes)
 left_events n = where_none_fails n.calls.fails (told_at_zero n.uncounted (rest_of n))
 
--- how often it failed
+-- the number of its failures
 abbrev pub fault_count : NetMemory → ℕ
 fault_count n = n.faults
 
--- what is seen of it
+-- the view of it
 abbrev pub net_seen : NetMemory → NetSeen
 net_seen n = record { history = told_history n; left = left_events n; faults = fault_count n }
 
@@ -87,7 +87,7 @@ TakesFrom before now stop_moment Failed buffer = now ≡ before
 TakesFrom [] now stop_moment (Got e) buffer = (e ≡ stop_event stop_moment) × (now ≡ [])
 TakesFrom (first ∷ rest) now stop_moment (Got e) buffer = (in_buffer e buffer ≡ first) × (now ≡ rest)
 
--- what happened is recorded after a call of `next` where it was recorded before, whether or not the call failed
+-- the happenings are recorded after a call of `next` where they were recorded before, whether or not the call failed
 abbrev pub GoesOnTelling : NetMemory → NetMemory → Type 0
 GoesOnTelling before now = before.log.since < 2 ^ 64 - 1 → IsSome (told_history before) → IsSome (told_history now)
 
@@ -98,8 +98,8 @@ pub record KeepsActs (before now : NetMemory) : Type 0 where
 
 -- ---- acts
 
--- What it has to give stays as it was. What happened is recorded after an act where it was recorded before and the act
--- wasn't lost.
+-- The events that it has to give stay as they were. The happenings are recorded after an act where they were recorded
+-- before and the act wasn't lost.
 pub record KeepsRest (before now : NetMemory) : Type 0 where
   pub rest : rest_of now ≡ rest_of before
   pub stop_moment : stop_moment_of now ≡ stop_moment_of before
@@ -136,7 +136,7 @@ IsCall (act.Listened place) = Unit {0}
 IsCall (act.Dialled host port c) = Unit {0}
 IsCall (act.Looked host port to) = Unit {0}
 
--- What is recorded has this act more, and what follows it where it failed.
+-- The record has this act more, and the break after it where it failed.
 abbrev pub GoesOnBy : NetMemory → NetMemory → Act → Type 0
 GoesOnBy before now act =
     Continues (told_history before) (told_history now) (did act ∷ breaks_after before.calls.fails before.calls.made act)
@@ -152,7 +152,7 @@ abbrev pub dial_answer : CallCount → ℕ → Dialled
 dial_answer calls connected =
     if is_failing calls.fails (one_more calls.made) then dialled.Failed else if nat_lt connected 64 then dialled.Connected connected else dialled.Failed
 
--- how many connections were dialled after this answer
+-- the number of connections that were dialled after this answer
 abbrev pub connected_after : Dialled → ℕ → ℕ
 connected_after (dialled.Connected c) connected = suc connected
 connected_after dialled.Failed connected = connected

@@ -1,4 +1,4 @@
--- What is known of a network: what may come, what happens, and what it shows of that.
+-- The view of a network: the events that may come, the happenings, and the part of them that it shows.
 use Rattle.std.specs.Prelude.{◌≡◌, ◌≤◌, ◌<◌, ◌^◌, ℕ, suc, List, [], ◌∷◌, Option, Some, None, take, length}
 use Rattle.std.specs.List.{filter_map}
 use Rattle.servient_base.specs.Count.{RoseBy}
@@ -21,7 +21,7 @@ use Rattle.servient_outside.specs.Told.{Continues}
 
 -- ---- events
 
--- how many bytes come with what came
+-- the number of bytes that come with an event
 abbrev pub byte_count : What → ℕ
 byte_count (Opened c) = 0
 byte_count (Bytes c count) = count
@@ -30,8 +30,8 @@ byte_count (Datagram from count) = count
 byte_count Tick = 0
 byte_count Stop = 0
 
--- What may come: of one of 64 connections, no more bytes at once than a buffer takes, but some; and a datagram of no
--- more bytes than are taken.
+-- An event may come: of one of 64 connections, no more bytes at once than a buffer takes, but some; and a datagram of
+-- no more bytes than are taken.
 abbrev pub MayCome : What → Type 0
 MayCome (Opened c) = c < 64
 MayCome (Bytes c count) = (c < 64) × (1 ≤ count) × (count ≤ 4096)
@@ -91,7 +91,7 @@ act_in (broke call) = None
 abbrev pub acts_in : List Happening → List Act
 acts_in = filter_map act_in
 
--- how often the network failed
+-- the number of times that the network failed
 abbrev pub break_count : List Happening → ℕ
 break_count [] = 0
 break_count (heard e ∷ happened) = break_count happened
@@ -100,8 +100,8 @@ break_count (broke call ∷ happened) = suc (break_count happened)
 
 -- ---- what a network shows
 
--- What is seen of a network at one time: all that happened so far, in the order in which it came about, where the
--- network records it; the events still to come, where they are known; and how often it failed.
+-- The view of a network at one time: all happenings so far, in the order in which they came about, where the network
+-- records them; the events still to come, where they are known; and the number of its failures.
 pub record NetSeen : Type 0 where
   pub history : Option (List Happening)
   pub left : Option (List EventWithBytes)
@@ -133,7 +133,7 @@ pub record NetShows (before now : NetSeen) (happened : List Happening) : Type 0 
   pub left : Leaves happened before.left now.left
   pub faults : RoseBy (break_count happened) before.faults now.faults
 
--- what a call of `next` is seen as
+-- the happening of a call of `next`
 abbrev pub came : Next → List ℕ → Happening
 came (Got e) buffer = heard (in_buffer e buffer)
 came Failed buffer = broke next_event
@@ -143,13 +143,13 @@ abbrev pub IsAnswer : Next → Type 0
 IsAnswer (Got e) = IsEvent e
 IsAnswer Failed = Unit {0}
 
--- what a call of `listen` is seen as
+-- the happening of a call of `listen`
 abbrev pub listens_as : Place → Listened → List Happening
 listens_as place listened.Ready = did (act.Listened place) ∷ []
 listens_as place listened.Failed = did (act.Listened place) ∷ broke listening ∷ []
 listens_as place listened.NoMemory = did (act.Listened place) ∷ []
 
--- what a call of `dial` is seen as
+-- the happening of a call of `dial`
 abbrev pub dials_as : List ℕ → ℕ → Dialled → List Happening
 dials_as host port (dialled.Connected c) = did (act.Dialled host port (Some c)) ∷ []
 dials_as host port dialled.Failed = did (act.Dialled host port None) ∷ broke dialling ∷ []
@@ -161,12 +161,12 @@ IsConnection (dialled.Connected c) = c < 64
 IsConnection dialled.Failed = Unit {0}
 IsConnection dialled.NoMemory = Unit {0}
 
--- what a call of `find` is seen as
+-- the happening of a call of `find`
 abbrev pub finds_as : List ℕ → ℕ → Found → List Happening
 finds_as host port (found.At endpoint) = did (act.Looked host port (Some endpoint)) ∷ []
 finds_as host port found.Failed = did (act.Looked host port None) ∷ broke looking ∷ []
 finds_as host port found.NoMemory = did (act.Looked host port None) ∷ []
 
--- what is seen of a network that records nothing but its count of faults, as one over sockets
+-- the view of a network that records nothing but its count of faults, as one over sockets
 abbrev pub counted_only : ℕ → NetSeen
 counted_only faults = record { history = None; left = None; faults = faults }

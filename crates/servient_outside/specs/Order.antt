@@ -30,7 +30,7 @@ steps (gap ∷ gaps) (act ∷ acts) since = asks gap ++ acted act ∷ steps gaps
 
 -- ---- what happens by them
 
--- how many calls that may fail were made after this act, where n were made before it
+-- the number of calls that may fail after this act, where n were made before it
 abbrev pub made_after : Act → ℕ → ℕ
 made_after (act.Sent c bytes) made = made
 made_after (act.Closed c) made = made
@@ -39,8 +39,8 @@ made_after (act.Listened place) made = one_more made
 made_after (act.Dialled host port c) made = one_more made
 made_after (act.Looked host port to) made = one_more made
 
--- What follows this act, where n calls were made before it: a break, if it failed. In memory nothing is connected and
--- nothing is found by that alone.
+-- The break after this act, where n calls were made before it and it failed. In memory nothing is connected and nothing
+-- is found by that alone.
 abbrev pub breaks_after : List ℕ → ℕ → Act → List Happening
 breaks_after fails made (act.Sent c bytes) = []
 breaks_after fails made (act.Closed c) = []
@@ -51,28 +51,28 @@ breaks_after fails made (act.Dialled host port None) = broke dialling ∷ []
 breaks_after fails made (act.Looked host port (Some to)) = []
 breaks_after fails made (act.Looked host port None) = broke looking ∷ []
 
--- how many events were given after a call of `next`, where n calls were made before it and m events were given
+-- the number of events given after a call of `next`, where n calls were made before it and m events were given
 abbrev pub given_after : List ℕ → ℕ → ℕ → ℕ
 given_after fails made given = if is_failing fails (one_more made) then given else suc given
 
--- what happens by that call: a failure, the next of the events, or the Stop once more
+-- the happening of that call: a failure, the next of the events, or the Stop once more
 abbrev pub call_result : List ℕ → List EventWithBytes → EventWithBytes → ℕ → ℕ → Happening
 call_result fails events stop made given =
     if is_failing fails (one_more made) then broke next_event else heard (unwrap_or (slice_get events given) stop)
 
--- how many calls that may fail were made after these
+-- the number of calls that may fail after these
 abbrev pub made_by : List Step → ℕ → ℕ
 made_by [] made = made
 made_by (asked ∷ steps) made = made_by steps (one_more made)
 made_by (acted act ∷ steps) made = made_by steps (made_after act made)
 
--- how many events were given after these
+-- the number of events given after these
 abbrev pub given_by : List ℕ → List Step → ℕ → ℕ → ℕ
 given_by fails [] made given = given
 given_by fails (asked ∷ steps) made given = given_by fails steps (one_more made) (given_after fails made given)
 given_by fails (acted act ∷ steps) made given = given_by fails steps (made_after act made) given
 
--- what happened by these
+-- the happenings of these
 abbrev pub happened_by : List ℕ → List EventWithBytes → EventWithBytes → List Step → ℕ → ℕ → List Happening
 happened_by fails events stop [] made given = []
 happened_by fails events stop (asked ∷ steps) made given =

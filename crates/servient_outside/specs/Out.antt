@@ -1,4 +1,4 @@
--- What is seen of an output: the answer to a write, and what was written.
+-- The view of an output: the answer to a write, and the bytes written.
 use Rattle.std.specs.Prelude.{◌≡◌, ◌≤◌, ◌-◌, ℕ, List, ◌++◌, Option, Some, length}
 use Rattle.servient_base.specs.Count.{Rose}
 use Rattle.servient_outside.specs.declared.out.Put.{Put}
@@ -11,8 +11,8 @@ Writes before now Done piece = Continues before now piece
 Writes before now Failed piece =
     (prefix : List ℕ) × (rest : List ℕ) × (piece ≡ prefix ++ rest) × Continues before now prefix
 
--- What is seen of an output at one time: the bytes written, where it records them, how often a write failed, and for how
--- many bytes more it has room, where it is known that no write fails that fits.
+-- The view of an output at one time: the bytes written, where it records them, the number of writes that failed, and
+-- the number of bytes more for which it has room, where it is known that no write fails that fits.
 pub record OutSeen : Type 0 where
   pub written : Option (List ℕ)
   pub faults : ℕ

@@ -1,4 +1,4 @@
--- What is seen of an output in memory, whose room is fixed.
+-- The view of an output in memory, whose room is fixed.
 use Rattle.std.specs.Prelude.{ℕ, ◌+◌, ◌-◌, ◌≤◌, List, Option, Some, length}
 use Rattle.servient_outside.specs.declared.calls.CallCount.{CallCount}
 use Rattle.servient_outside.specs.declared.out_memory.OutMemory.{OutMemory}
@@ -13,11 +13,11 @@ calls_of o = o.calls
 abbrev pub written_bytes : OutMemory → List ℕ
 written_bytes o = o.bytes.items
 
--- how many bytes it has room for, those that are written among them
+-- the number of bytes for which it has room, those that are written among them
 abbrev pub room_of : OutMemory → ℕ
 room_of o = o.room
 
--- how often a write failed
+-- the number of writes that failed
 abbrev pub fault_count : OutMemory → ℕ
 fault_count o = o.faults
 

@@ -1,4 +1,4 @@
-//! The acts that a network in memory keeps, and where each of them comes among the calls of `next`.
+//! The acts that a network in memory keeps, and the place of each among the calls of `next`.
 
 ghost use Rattle.std.specs.Prelude.{◌≡◌, [], ◌∷◌, ◌++◌, OnErr, OnOk, length};
 
@@ -11,9 +11,9 @@ use std::alloc::Global;
 pub struct ActLog {
     pub acts: Vec<Act>,
     pub gaps: Vec<u64>,
-    /// How many calls of `next` came after the last act.
+    /// The number of calls of `next` that came after the last act.
     pub since: u64,
-    /// How many acts were lost out of memory. At its last value, 2^64 - 1, it stays.
+    /// The number of acts that were lost out of memory. At its last value, 2^64 - 1, it stays.
     pub lost: u64,
     ghost gap_for_each: { length gaps.items ≡ length acts.items },
 }
@@ -65,6 +65,7 @@ impl ActLog {
         ensures since { self.new.since ≡ self.old.since }
         ensures lost { self.new.lost ≡ self.old.lost }
     {
+        // Room for the act is taken first, so that the act and its place are both put there or neither.
         self.acts.reserve(1)?;
         self.gaps.push(self.since)?;
         self.acts.push_reserved(act);

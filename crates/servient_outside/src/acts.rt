@@ -1,4 +1,4 @@
-//! Acts as they are kept: each owns a copy of what it was done with.
+//! Acts as they are kept: each owns a copy of its arguments, since the list of acts outlives the call.
 
 ghost use Rattle.std.specs.Prelude.{◌≡◌, ◌++◌, IfOk};
 

@@ -1,4 +1,4 @@
-//! Which calls of an object in memory fail, and how many calls it has had.
+//! The calls of an object in memory that fail, and the number of calls that it has had.
 
 ghost use Rattle.std.specs.Prelude.{◌≡◌, [], ◌∷◌, ◌++◌, ◌↔◌, IsTrue, OnErr, OnOk};
 

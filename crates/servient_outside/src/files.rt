@@ -1,4 +1,4 @@
-//! The files: what a read answers, and what is known of them.
+//! The files: the answer of a read, and the view of them in contracts.
 
 ghost use Rattle.std.specs.Prelude.{◌≡◌, [], ◌∷◌, ◌++◌, OnErr, OnOk};
 
@@ -98,12 +98,12 @@ impl Held {
 pub trait Files {
     ghost use Rattle.servient_outside.specs.Files.{AnswersRead, FilesSeen, FilesShow};
 
-    /// What is seen of them: what each file holds, the reads so far, and how often one failed. A read for which there
-    /// was no memory isn't among them.
+    /// The view of them: the content of each file, the reads so far, and the number of those that failed. A read for
+    /// which there was no memory isn't among them.
     ghost seen: { Self → FilesSeen };
 
-    /// Reads a whole file of at most `limit` bytes. After any answer but `Whole` what is in
-    /// `into` is open, and `NoMemory` may come at any call.
+    /// Reads a whole file of at most `limit` bytes. After any answer but `Whole` the content of `into` is open, and
+    /// `NoMemory` may come at any call.
     fn read(&mut self, alloc: Global, name: &str, limit: usize, into: &mut Bytes) -> Got
         ensures answer { AnswersRead (seen self.old).held name.now limit result into.new }
         ensures shows { FilesShow (seen self.old) (seen self.new) name.now limit result };

@@ -1,4 +1,4 @@
-//! Files in memory: they record what they hold and which reads were made.
+//! Files in memory: they record their content and the reads that were made.
 
 ghost use Rattle.std.specs.Prelude.{◌≡◌, ◌≢◌, [], ◌∷◌, ◌++◌, Some, IfOk, OnErr, OnOk};
 ghost use Rattle.servient_outside.specs.Files.{AnswersRead};
@@ -9,7 +9,7 @@ use servient_base::NoMemory;
 use std::alloc::Global;
 use wot_json::{Bytes, Text};
 
-/// For how many reads there is memory from the start.
+/// The number of reads for which there is memory from the start.
 const FIRST_READS: usize = 4;
 
 /// Files in memory, which keep a list of the reads that were made.
@@ -101,7 +101,7 @@ impl Files for FilesMemory {
         ensures answer { AnswersRead (seen_of self.old).held name.now limit result into.new }
         ensures shows { FilesShow (seen_of self.old) (seen_of self.new) name.now limit result }
 
-        // Which calls fail, and what they leave.
+        // The calls that fail, and the files after them.
         ensures fails_only { result ≡ Got.Failed → FailsNext (calls_of self.old) }
         ensures fails { FailsNext (calls_of self.old) → (result ≡ Got.Failed) ⊎ (result ≡ Got.NoMemory) }
         ensures calls { calls_of self.new ≡ after_call (calls_of self.old) }

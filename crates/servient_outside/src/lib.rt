@@ -1,10 +1,11 @@
 //! The outside of the servient as it is proved: the network, the files and the output.
 //!
-//! Each is a trait whose ghost member says what is seen of it: what happened at the network, in order, and what is
-//! still to come; what the files hold and which reads were made; the bytes written; how often each failed. A version in
-//! memory records all of that; but a network in memory that has lost an act, because it was out of memory, records no
-//! more of what happened. The adapters to the machine, which record only what failed, are a crate of their own,
-//! `servient_edge`: so a crate is the border between what is proved, here, and what is tested, there.
+//! Each is a trait whose ghost member says its view in contracts: the happenings at the network, in order, and the
+//! events still to come; the content of the files and the reads that were made; the bytes written; the number of
+//! failures of each. A version in memory records all of that; but a network in memory that has lost an act, because it
+//! was out of memory, records no more happenings. The adapters to the machine, which record only failures, are a crate
+//! of their own, `servient_edge`, so that a crate is the border between the part that is proved, here, and the part
+//! that is tested, there.
 //!
 //! ```
 //! use servient_outside::{Calls, Events, Net, NetMemory, Next, What};

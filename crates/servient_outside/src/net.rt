@@ -1,4 +1,4 @@
-//! The network: what it gives, what is done to it, and what is known of it.
+//! The network: its events, the acts on it, and the view of it in contracts.
 
 use crate::Place;
 use coap_msg::Endpoint;
@@ -6,7 +6,7 @@ use servient_base::ConnectionId;
 use std::alloc::Global;
 use wot_json::{Bytes, Text};
 
-/// What came. A connection has a number below 64, which names it until it has ended or is closed.
+/// The cause of an event. A connection has a number below 64, which names it until it has ended or is closed.
 #[derive(Clone, Copy, Debug, PartialEq, Eq)]
 pub enum What {
     /// A peer opened the connection of this number.
@@ -27,7 +27,7 @@ impl What {
     ghost use Rattle.std.specs.Prelude.{◌≡◌};
     ghost use Rattle.servient_outside.specs.Network.{byte_count as bytes_of};
 
-    /// How many bytes came with it.
+    /// The number of bytes that came with it.
     pub fn byte_count(&self) -> usize
         ensures { result ≡ bytes_of self.now }
     {
@@ -39,7 +39,7 @@ impl What {
     }
 }
 
-/// What came, and when.
+/// An event: its cause and its moment.
 #[derive(Clone, Copy, Debug, PartialEq, Eq)]
 pub struct Event {
     /// Milliseconds; at most 10^15.
@@ -86,7 +86,7 @@ pub enum Found {
     NoMemory,
 }
 
-/// What was done to the network.
+/// An act on the network.
 #[derive(Debug, Drop)]
 pub enum Act {
     /// These bytes were sent on this connection.
@@ -110,14 +110,14 @@ pub trait Net {
     ghost use Rattle.servient_outside.specs.Network.{NetSeen, NetShows, did, came, IsAnswer, IsConnection};
     ghost use Rattle.servient_outside.specs.Network.{listens_as, dials_as, finds_as};
 
-    /// What is seen of it: what happened so far, what is still to come, and how often it failed.
+    /// The view of it: the happenings so far, the events still to come, and the number of failures.
     ghost seen: { Self → NetSeen };
 
     /// Listens on both addresses.
     fn listen(&mut self, alloc: Global, place: &Place) -> Listened
         ensures { NetShows (seen self.old) (seen self.new) (listens_as place.now result) };
 
-    /// The next event. Its bytes are put at the beginning of `buffer`, and what follows them there is open.
+    /// The next event. Its bytes are put at the beginning of `buffer`, and the rest of the buffer is open.
     fn next(&mut self, buffer: &mut [u8]) -> Next
         requires { length buffer.old ≡ 4096 }
         ensures answer { IsAnswer result }
@@ -140,7 +140,7 @@ pub trait Net {
         ensures answer { IsConnection result }
         ensures shows { NetShows (seen self.old) (seen self.new) (dials_as host.now port result) };
 
-    /// Where datagrams to a host go.
+    /// The endpoint to which datagrams to a host go.
     fn find(&mut self, alloc: Global, host: &str, port: u16) -> Found
         ensures { NetShows (seen self.old) (seen self.new) (finds_as host.now port result) };
 }

@@ -1,5 +1,5 @@
-//! A network in memory: it gives a list of events and a Stop, and keeps what is done to it. It records all that
-//! happened, in order, as long as there was memory for each act.
+//! A network in memory: it gives a list of events and a Stop, and keeps the acts on it. It records all that happened,
+//! in order, as long as there was memory for each act.
 
 ghost use Rattle.std.specs.Prelude.{◌≡◌, ◌≤◌, ◌<◌, ◌+◌, ◌-◌, ◌^◌, ◌++◌, ℕ, [], ◌∷◌, Some, IfOk, IfSome, length, min};
 ghost use Rattle.servient_outside.specs.Ending.{last_moment as moment_of_last, with_stop};
@@ -22,15 +22,15 @@ use wot_json::Bytes;
 #[derive(Drop)]
 pub struct NetMemory {
     alloc: Global,
-    // All that it has to give, the Stop at the end with it.
+    // The events that it has to give, the Stop at the end with them.
     events: Events,
-    // How many of those were given.
+    // The number of those that were given.
     given: usize,
     stop_moment: u64,
     calls: CallCount,
-    // How many connections were dialled.
+    // The number of connections that were dialled.
     connected: ConnectionId,
-    // How many calls of `next` came once the number of those after the last act was at its last value.
+    // The number of calls of `next` that came once the number of those after the last act was at its last value.
     uncounted: u64,
     faults: u64,
     log: ActLog,
@@ -55,7 +55,7 @@ fn last_moment(events: &Events) -> u64
     }
 }
 
-/// How many calls weren't counted after one more, where n were counted before.
+/// The number of calls that weren't counted after one more, where n were counted before.
 fn uncounted_after(since: u64, uncounted: u64) -> u64
     ensures counted { result ≡ 0 → (uncounted ≡ 0) × (since < 2 ^ 64 - 1) }
     ensures unchanged { since < 2 ^ 64 - 1 → result ≡ uncounted }
@@ -76,7 +76,7 @@ impl NetMemory {
     ghost use Rattle.servient_outside.specs.NetMemory.{GoesOnBy, KeepsEvents, KeepsOrCounts, KeepsRest};
 
     /// A network that gives these events, and whose calls of `listen`, `next`, `dial` and `find` of these numbers fail.
-    /// The Stop at the end takes memory.
+    /// The Stop at the end is put there now, so that giving it takes no memory.
     pub fn new(alloc: Global, events: Events, fails: Calls) -> Result<NetMemory, NoMemory>
         ensures history { IfOk result (λ n. (⟦<NetMemory as Net>⟧.seen n).history ≡ Some []) }
         ensures left { fails ≡ []
@@ -115,7 +115,7 @@ impl NetMemory {
         self.log.acts.as_slice()
     }
 
-    /// How many acts were lost out of memory. At its last value, 2^64 - 1, it stays.
+    /// The number of acts that were lost out of memory. At its last value, 2^64 - 1, it stays.
     pub fn lost(&self) -> u64
         ensures { result ≡ lost_acts self.now }
     {
@@ -172,6 +172,7 @@ impl Net for NetMemory {
         ensures kept_or_counted { KeepsOrCounts self.old self.new (Act.Listened place.now) }
         ensures rest_stays { KeepsRest self.old self.new }
     {
+        // Asked before the act is kept, since keeping it counts the call.
         let fails = self.calls.is_next_failing();
         self.keep_call(acts::listened(alloc, place));
         if fails {
@@ -187,7 +188,7 @@ impl Net for NetMemory {
         ensures answer { IsAnswer result }
         ensures shows { NetShows (net_seen self.old) (net_seen self.new) (came result buffer.new ∷ []) }
 
-        // Which calls fail, and what they leave.
+        // The calls that fail, and the network after them.
         ensures fails { (result ≡ Next.Failed) ↔ FailsNext (calls_of self.old) }
         ensures calls { calls_of self.new ≡ after_call (calls_of self.old) }
         ensures counted { result ≡ Next.Failed → fault_count self.new ≡ one_more (fault_count self.old) }

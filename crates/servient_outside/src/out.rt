@@ -1,4 +1,4 @@
-//! The output: what a write answers, and what is known of it.
+//! The output: the answer of a write, and the view of it in contracts.
 
 /// The answer of `Out::put`.
 #[derive(Clone, Copy, Debug, PartialEq, Eq)]
@@ -13,7 +13,7 @@ pub enum Put {
 pub trait Out {
     ghost use Rattle.servient_outside.specs.Out.{OutSeen, OutShows};
 
-    /// What is seen of it: the bytes written so far, and how often a write failed.
+    /// The view of it: the bytes written so far, and the number of writes that failed.
     ghost seen: { Self → OutSeen };
 
     /// Writes a piece after what was written before.

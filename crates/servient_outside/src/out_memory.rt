@@ -1,4 +1,4 @@
-//! An output in memory with a fixed room, which records what was written.
+//! An output in memory with a fixed room, which records the bytes written.
 
 ghost use Rattle.std.specs.Prelude.{◌≡◌, ◌≤◌, [], Some, IfOk, vec_len, vec_capacity};
 
@@ -7,7 +7,7 @@ use crate::{Calls, Out, Put};
 use servient_base::NoMemory;
 use std::alloc::Global;
 
-/// An output in memory. It takes its memory when it is made, and none later.
+/// An output in memory. It takes its memory when it is made, so that a write takes none.
 #[derive(Drop)]
 pub struct OutMemory {
     bytes: Vec<u8>,
@@ -55,12 +55,12 @@ impl Out for OutMemory {
 
     ghost seen = { seen_of };
 
-    /// Failed where the call's number is in the list that `new` took, and where the piece doesn't fit
-    /// into what is left. Nothing is written then.
+    /// Failed where the call's number is in the list that `new` took, and where the piece doesn't fit into the room
+    /// that is left. Nothing is written then.
     fn put(&mut self, bytes: &[u8]) -> Put
         ensures shows { OutShows (seen_of self.old) (seen_of self.new) result bytes.now }
 
-        // Which pieces are taken, and what the others leave.
+        // The pieces that are taken, and the output after the others.
         ensures done { (result ≡ Put.Done) ↔ Takes self.old bytes.now }
         ensures nothing { result ≡ Put.Failed → written_bytes self.new ≡ written_bytes self.old }
         ensures counted { result ≡ Put.Failed → fault_count self.new ≡ one_more (fault_count self.old) }

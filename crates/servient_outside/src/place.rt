@@ -1,4 +1,4 @@
-//! Where the network listens, and how long it stays without traffic.
+//! The place where the network listens, and the time that it stays without traffic.
 
 use wot_json::Text;
 

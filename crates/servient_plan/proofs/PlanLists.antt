@@ -7,7 +7,7 @@ use Rattle.wot_json.specs.Meaning.{json_of, json_items}
 use Rattle.wot_json.specs.declared.tree.Tree.{Tree}
 use Rattle.servient_plan.specs.Plan.{each_read}
 
--- what entries are read as
+-- the values that entries are read as
 abbrev pub read_as : {A : Type 0} → (Json → Option A) → List Tree → Option (List A)
 read_as read entries = each_read read (elements_of (json_items entries))
 

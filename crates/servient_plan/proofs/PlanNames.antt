@@ -26,7 +26,7 @@ row_is : (name : List ℕ) (value : Option (List ℕ)) (t : List ℕ) → row_of
 row_is name None t is = absurd (cc)
 row_is name (Some value) t is = cc
 
--- what a row reads of a text that may be taken is such as it takes
+-- the value that a row reads of a text that may be taken is such as it takes
 pub is_taken : (r : TextRow) (name : List ℕ) (found value : Option (List ℕ)) (result : Result (List ℕ) PlanFault) → value ≡ taken_text r found → Reads result (row_of name value)
     → IfOk result (λ text. takes_text r text ≡ true)
 is_taken r name found value (Ok t) taken is = taken_is r found t (sym taken ∙ row_is name value t is)

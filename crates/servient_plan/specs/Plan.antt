@@ -70,7 +70,7 @@ row_of name (Some value) = Ok value
 abbrev pub text_row : TextRow → List (List ℕ × Json) → Result (List ℕ) (List ℕ)
 text_row r ms = row_of (member_of r) (taken_text r (text_in (member_named (member_of r) ms)))
 
--- what each element of a list is read as, where each is right
+-- the values that the elements of a list are read as, where each is right
 abbrev pub each_read : {A : Type 0} → (Json → Option A) → Elements → Option (List A)
 each_read read no_elements = Some []
 each_read read (element v es) = option_and_then (λ a. option_map (λ as_read. a ∷ as_read) (each_read read es)) (read v)
@@ -122,13 +122,13 @@ instance_in None = Some None
 instance_in (Some (string text)) = Some (Some text)
 instance_in (Some v) = None
 
--- how many exchanges may live: 16 to 65,536, and 1,024 where the member is absent
+-- the number of exchanges that may live: 16 to 65,536, and 1,024 where the member is absent
 abbrev pub exchanges_in : Option Json → Option ℕ
 exchanges_in None = Some 1024
 exchanges_in (Some v) = number_within 16 65536 (Some v)
 
--- when the clock began, in milliseconds after the start of 1970: up to the last one of the year 9999, and nothing where
--- the member is absent
+-- the moment at which the clock began, in milliseconds after the start of 1970: up to the last one of the year 9999,
+-- and nothing where the member is absent
 abbrev pub last_epoch : ℕ
 last_epoch = 253_402_300_799_999
 
@@ -146,7 +146,7 @@ then_row (Ok a) next = next a
 abbrev pub member_row : {A : Type 0} → List ℕ → (Option Json → Option A) → List (List ℕ × Json) → Result A (List ℕ)
 member_row name read ms = row_of name (read (member_named name ms))
 
--- what a reading of rows answers: the value that they have; or the member that they refuse first; or out of memory
+-- the answer of a reading of rows: the value that they have; or the member that they refuse first; or out of memory
 abbrev pub Reads : {A : Type 0} → Result A PlanFault → Result A (List ℕ) → Type 0
 Reads (Ok value) r = r ≡ Ok value
 Reads (Err (At pointer)) r = r ≡ Err pointer
@@ -199,7 +199,8 @@ is_object v = false
 abbrev pub plan_of : Json → Result Plan (List ℕ)
 plan_of v = if is_object v then plan_in (members_under v) else Err []
 
--- as many exchanges may live as a server takes, the segment of the root is plain, and the clock began before the year 10000
+-- as many exchanges may live as a server takes, the segment of the root is plain, and the clock began before the year
+-- 10000
 abbrev pub MayBeServed : Plan → Type 0
 MayBeServed plan = (16 ≤ plan.exchanges) × (plan.exchanges ≤ 65536) × (is_plain_segment plan.frame.segment ≡ true) × IfSome plan.epoch (λ epoch. epoch ≤ last_epoch)
 

@@ -1,4 +1,4 @@
-//! The built-in Thing: what is served where no plan is named. It is derived from its one model like any other.
+//! The built-in Thing, which is served where no plan is named. It is derived from its one model like any other.
 
 ghost use Rattle.std.specs.Prelude.{◌≡◌, ◌++◌, ◌∷◌, [], codes, IfOk, OnOk};
 ghost use Rattle.wot_json.specs.Meaning.{json_of};
@@ -47,7 +47,7 @@ impl Plan {
     }
 }
 
-/// The segment and the `id` of the Thing, and what its URLs begin with.
+/// The segment and the `id` of the Thing, and the beginnings of its URLs.
 fn frame(alloc: Global) -> Result<Frame, NoMemory>
     ensures { IfOk result (λ frame. frame ≡ built_in_plan.frame) }
 {

@@ -1,4 +1,4 @@
-//! The plan of a servient: which Things it exposes, where, and with which handlers.
+//! The plan of a servient: the Things that it exposes, where, and with which handlers.
 
 ghost use Rattle.std.specs.Prelude.{◌≡◌, ◌⊎◌, ◌++◌, ◌∷◌, [], true, codes, IfOk, OnErr, OnOk};
 ghost use Rattle.wot_json.specs.Meaning.{json_of};
@@ -25,26 +25,26 @@ use wot_json::{NoMemory, Text, Tree};
 /// A plan (docs/PROFILE.md, "The plan").
 #[derive(Debug, Drop)]
 pub struct Plan {
-    /// The segment and the `id` of the root Thing, what its URLs begin with, and the `instance` of its version: just
-    /// what `derive` takes.
+    /// The segment and the `id` of the root Thing, the beginnings of its URLs, and the `instance` of its version: just
+    /// as `derive` takes them.
     pub frame: Frame,
     /// The text of the URL of the root's model.
     pub root: Text,
     /// The models and their files.
     pub models: ModelFiles,
-    /// What placeholders are bound to.
+    /// The values to which placeholders are bound.
     pub bindings: Bindings,
     /// The optional affordances that are chosen.
     pub choices: Choices,
     /// The slots of the handlers, as exposing takes them.
     pub slots: Slots,
-    /// How many CoAP exchanges may live at a time.
+    /// The number of CoAP exchanges that may live at a time.
     pub exchanges: u32,
-    /// When the clock began, in milliseconds after the start of 1970, where the plan says so.
+    /// The moment at which the clock began, in milliseconds after the start of 1970, where the plan says so.
     pub epoch: Option<u64>,
 }
 
-/// What the first rows of the table read: who the root Thing is, where it is served, and the URL of its model.
+/// The first rows of the table: the names of the root Thing, the bases at which it is served, and the URL of its model.
 #[derive(Drop)]
 struct Names {
     segment: Text,
@@ -53,7 +53,7 @@ struct Names {
     root: Text,
 }
 
-/// What the Things are derived from, besides the root's model.
+/// The lists from which the Things are derived, besides the root's model.
 #[derive(Drop)]
 struct Lists {
     models: ModelFiles,
@@ -91,7 +91,7 @@ impl ModelFiles {
     }
 }
 
-/// Why a tree is no plan.
+/// The cause for which a tree is no plan.
 #[derive(Debug, Drop, Error)]
 pub enum PlanFault {
     /// The pointer to the first member that isn't as a plan has it, in the order of the table in docs/PROFILE.md; the
@@ -115,7 +115,7 @@ impl From<AllocError> for PlanFault {
 }
 
 impl PlanFault {
-    /// That the member of this name isn't as a plan has it.
+    /// The fault of a member of this name that isn't as a plan has it.
     pub(crate) fn of_member(alloc: Global, name: &str) -> PlanFault
         ensures { (result ≡ PlanFault.NoMemory) ⊎ (result ≡ PlanFault.At (codes "/" ++ name.now)) }
     {
@@ -176,7 +176,7 @@ impl Plan {
         })
     }
 
-    /// Where a servient of this plan listens: at its bases, until `idle` milliseconds pass without traffic.
+    /// The place where a servient of this plan listens: at its bases, until `idle` milliseconds pass without traffic.
     pub fn place(&self, alloc: Global, idle: u64) -> Result<Place, NoMemory>
         ensures { IfOk result (λ place. place ≡ place_of self.now idle) }
     {
@@ -212,7 +212,7 @@ fn names_in(alloc: Global, tree: &Tree) -> Result<Names, PlanFault>
     })
 }
 
-/// The lists of a plan that say what its Things are derived from.
+/// The lists of a plan from which its Things are derived.
 #[tactic(auto, using(crate::proofs::PlanLaws::refused_there, crate::proofs::PlanLaws::goes_on_there))]
 fn lists_in(alloc: Global, tree: &Tree) -> Result<Lists, PlanFault>
     ensures { Reads result (spec.lists_in (members_under (json_of tree.now))) }

@@ -1,4 +1,4 @@
-//! The members of a plan that are texts: which text each of them may be.
+//! The members of a plan that are texts, and the texts that each may be.
 
 ghost use Rattle.std.specs.Prelude.{◌≡◌, MatchOption, None, Some};
 ghost use Rattle.std.specs.List.{list_all};

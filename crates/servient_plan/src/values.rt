@@ -21,7 +21,7 @@ const MOST_MODELS: usize = 256;
 /// The greatest number of a slot.
 const LAST_SLOT: u32 = 65_535;
 
-/// The least and the most exchanges, and how many they are where a plan doesn't say.
+/// The least and the most exchanges, and their number where a plan doesn't say.
 const LEAST_EXCHANGES: u32 = 16;
 
 const MOST_EXCHANGES: u32 = 65_536;
@@ -50,7 +50,7 @@ fn text_of(tree: &Tree) -> Option<&str>
     }
 }
 
-/// The value of a member that is as its row says, or that the member of this name isn't.
+/// The value of a member that is as its row says, or the fault of the member of this name.
 fn row<A>(alloc: Global, name: &str, value: Option<A>) -> Result<A, PlanFault>
     ensures { Reads result (spec.row_of name.now value) }
 {
@@ -159,7 +159,7 @@ pub(crate) fn models_row(alloc: Global, tree: &Tree) -> Result<ModelFiles, PlanF
     row(alloc, "models", models)
 }
 
-/// What placeholders are bound to.
+/// The values to which placeholders are bound.
 fn bindings_in(alloc: Global, value: Option<&Tree>) -> Result<Option<Bindings>, NoMemory>
     ensures { IfOk result (λ o. o ≡ spec.bindings_in (option_map (λ t. json_of t.now) value.entry)) }
 {
@@ -172,6 +172,7 @@ fn bindings_in(alloc: Global, value: Option<&Tree>) -> Result<Option<Bindings>, 
 fn bindings_of(alloc: Global, tree: &Tree) -> Result<Option<Bindings>, NoMemory>
     ensures { IfOk result (λ o. o ≡ spec.bindings_in (Some (json_of tree.now))) }
 {
+    // A copy, since the bindings own their values.
     let tree = copy(alloc, tree)?;
     match tree {
         Tree::Obj(members) => Ok(Some(Bindings::from_vec(members.into_vec()))),
@@ -329,7 +330,7 @@ pub(crate) fn slots_row(alloc: Global, tree: &Tree) -> Result<Slots, PlanFault>
     row(alloc, "slots", slots)
 }
 
-/// How many exchanges may live.
+/// The number of exchanges that may live.
 fn exchanges_in(value: Option<&Tree>) -> Option<u32>
     ensures { result ≡ spec.exchanges_in (option_map (λ t. json_of t.now) value.entry) }
 {
@@ -347,7 +348,7 @@ pub(crate) fn exchanges_row(alloc: Global, tree: &Tree) -> Result<u32, PlanFault
     row(alloc, "exchanges", exchanges_in(tree.member("exchanges")))
 }
 
-/// When the clock began, which may be absent.
+/// The moment at which the clock began, which may be absent.
 fn epoch_in(value: Option<&Tree>) -> Option<Option<u64>>
     ensures { result ≡ spec.epoch_in (option_map (λ t. json_of t.now) value.entry) }
 {

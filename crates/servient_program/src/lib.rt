@@ -1,8 +1,8 @@
 //! The whole program below `main`: it makes the real files, the network over sockets, the output and the shipped rack,
-//! and does what the program's words say.
+//! and does the command of the program's words.
 //!
-//! It is a library so that each program crate is this one call: `servient`, and each stored run of it with
-//! words and an exit status of its own.
+//! It is a library so that each program crate is this one call: `servient`, and each stored run of it with words and an
+//! exit status of its own.
 #![tactic(auto)]
 
 ghost use Rattle.std.specs.Prelude.{◌≡◌, drop};
@@ -20,7 +20,8 @@ use std::{env, io};
 use thing_handler::{Handler, Handlers, Rack, SHIPPED_SLOTS, shipped_in};
 use wot_json::Text;
 
-/// Does what the words after the program's name say, and gives the exit status. docs/PROFILE.md has the table of these.
+/// Does the command of the words after the program's name, and gives the exit status. docs/PROFILE.md has the table of
+/// these.
 pub fn run(rt: &HostRuntime) -> ExitCode {
     match run_words(rt) {
         Ok(status) => ExitCode::from(status),
@@ -28,7 +29,7 @@ pub fn run(rt: &HostRuntime) -> ExitCode {
     }
 }
 
-/// Makes what the top call needs, and calls it.
+/// Makes the objects that the top call needs, and calls it.
 fn run_words(rt: &HostRuntime) -> Result<u8, NoMemory> {
     let alloc = rt.alloc();
     let words = process_words(rt)?;
@@ -46,7 +47,7 @@ fn run_words(rt: &HostRuntime) -> Result<u8, NoMemory> {
     Ok(status)
 }
 
-/// Does what the words of a process say, of which the first is the program's own name, and gives the exit status.
+/// Does the command of the words of a process, of which the first is the program's own name, and gives the exit status.
 pub fn run_process<F: Files, N: Net, R: Handlers, O: Out>(
     alloc: Global,
     words: &[Text],

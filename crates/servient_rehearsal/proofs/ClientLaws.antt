@@ -1,4 +1,4 @@
--- What the client does is a turn of both ends.
+-- An act of the client is a turn of both ends.
 use Rattle.std.proofs.Common.{◌≡◌, ◌≢◌, ◌∙◌, ℕ, ◌+◌, ◌-◌, ◌^◌, ◌<◌, ◌≤◌, ◌&&◌, Bool, true, false, cond, not, List, [], ◌∷◌, ◌++◌, map, take, length, inl, inr, refl, sym, ap, subst, arith}
 use Rattle.std.specs.Prelude.{All, IfSome, Option, Some, None, is_some, slice_get, option_map}
 use Rattle.std.specs.Option.{option_to_list}
@@ -38,7 +38,7 @@ use Rattle.servient_rehearsal.proofs.TurnLaws.{shows_none, arrives_turn, Turns}
 abbrev pub with_world : Played → WorldState → Played
 with_world p w = record p { ends = record p.ends { world = w } }
 
--- what was said of the client that is kept, at the moment that is noted, holds in the world
+-- a fact of the client that is kept, at the moment that is noted, holds in the world
 in_world : (P : ClientState → Type 0) (s : Layers) (client : ClientState) (notes : Notes) (p : Played) → AreNoted (kept s client notes) p
     → P (at_moment notes.world.moment client) → P (at_moment p.ends.world.moment p.ends.world.client)
 in_world P s client notes p are holds =
@@ -50,7 +50,7 @@ in_world P s client notes p are holds =
 pub can_be_said : (b : Block) → b.number < 2 ^ 20 → b.szx ≤ 6 → IsBlock b
 can_be_said b number size = record { number = number; szx = size }
 
--- what is of class 0 may be asked, with short segments and blocks that an option can say
+-- an ask of class 0 may be asked, with short segments and blocks that an option can say
 pub may_be_asked : (a : Asking) → a.code ≢ 0 → a.code < 32 → IfSome a.block1 IsBlock → IfSome a.block2 IsBlock → All (λ segment. length segment ≤ 255) a.path → MayAsk a
 may_be_asked a code class block1 block2 segments = record { code = code; class = class; segments = segments; block1 = block1; block2 = block2 }
 
@@ -187,7 +187,7 @@ waited_turn site s slots client t notes old new comes = λ p are. record {
 
 -- ---- a datagram comes
 
--- how an ask ended, as news say it
+-- the end of an ask, as news say it
 end_news : (ends : List AskEndInWorld) → shown_ends ends ≡ shown_ends (ends ++ [])
 end_news ends = ap shown_ends (sym (append-nil ends))
 
@@ -209,7 +209,7 @@ news_end news.Nothing None y k n asks ends same is = is ∙ end_news ends
 news_end news.Nothing (Some o) (Some u) k n asks ends same is = is ∙ end_news ends
 news_end news.Nothing (Some o) None k n asks ends same is = is ∙ end_news ends
 
--- what an end of an ask leaves
+-- the notes that the end of an ask leaves
 record LeavesAllBut (n m : Noted) : Type 0 where
   moment : m.moment ≡ n.moment
   sent : m.sent ≡ n.sent

@@ -161,7 +161,7 @@ sent_turned site i e n given old new client notes before after p are steps d at 
     heard_turned site (delivers i) d.from (length d.bytes) d.bytes d.purpose p old new client notes before after (datagrams_in steps.seen) are like.steps like.same
     (λ q values hears. arrives_turn site i p hears.seen q (Some d) at (record { comes = to_servient may to hears; saw = refl; values = values ∙ sym (append-nil p.values) }))
 
--- what was said at the moment that is noted holds at that of the world
+-- a fact at the moment that is noted holds at that of the world
 abbrev AtMoment : (site : Site) (w : What) (bytes : List ℕ) (new : Layers) (before after : List Seen) (p : Played) (m : Turn) (client : ClientState) (notes : Notes) (moment : ℕ) → Type 0
 AtMoment site w bytes new before after p m client notes moment =
     (steps : StepsFrom site (event_at moment w bytes) p.ends.servient new before after) → Turned site m p new client before after (with_datagrams (datagrams_in steps.seen) (noted_of notes.world)) notes.registered
@@ -259,7 +259,7 @@ pub end_turn : (site : Site) (x : What) (bytes : List ℕ) (s : Layers) (client 
     → Turns site (turn_besides x bytes) (kept s client notes) s client slots slots (noted_of notes.world) notes.registered
 end_turn site x bytes s client notes slots given is = end_by_test site (is_given x bytes) x bytes s client notes slots given is
 
--- what may be given may come
+-- an event that may be given may come
 possible : (x : What) → is_possible x ≡ true → MayCome x
 possible (what.Opened c) e = grind (arith, nat_tests)
 possible (what.Bytes c count) e = let first = both _ _ e in let second = both _ _ first.1 in (below c first.0, least count second.0, most count second.1)

@@ -32,7 +32,7 @@ plays_on_none site moves c slots same fits client noted time =
       asks = omega arith;
     }
 
--- what is left of the time, a move on
+-- the time that is left, a move on
 time_left : (moves : List Move) (i : ℕ) (m : Move) → i < length moves → m ≡ get_or moves i m → total_passed (drop i moves) ≡ passed_by m + total_passed (drop (i + 1) moves)
 time_left moves i m within is = at_drop_more total_passed moves i m within ∙ ap (λ (x : Move). passed_by x + total_passed (drop (i + 1) moves)) (sym is)
 

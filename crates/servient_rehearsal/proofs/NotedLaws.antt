@@ -1,4 +1,4 @@
--- What is noted goes on as what is seen of the world does.
+-- The notes go on as the trace of the world does.
 use Rattle.std.proofs.Common.{◌≡◌, ◌∙◌, ℕ, ◌+◌, ◌-◌, ◌*◌, ◌/◌, ◌%◌, ◌<◌, ◌≤◌, Bool, true, false, cond, List, [], ◌∷◌, ◌++◌, map, length, get_or, refl, sym, ap, subst, arith, append_assoc, zero, suc}
 use Rattle.std.specs.Prelude.{Option, Some, None, slice_get, nat_lt}
 use Rattle.std.proofs.lemmas.Bool.Decides.{nat_tests}
@@ -124,7 +124,7 @@ notices_shown w thing [] = refl
 notices_shown w thing (n ∷ ns) =
     ap (λ (l : List SentDatagram). record { moment = w.moment; from = server_place; to = n.to; bytes = notice_bytes n thing } ∷ l) (notices_shown w thing ns)
 
--- what was sent back and what was notified of is noted
+-- the datagrams that were sent back and the notifications are noted
 pub event_shown : (noted : List SentDatagram) (sent : List Datagram) (now : ℕ) (w : WorldState) (from : Endpoint) (purpose : Purpose) (said : List (List ℕ)) (thing : ThingState) (ns : List Notice) (all : List (Endpoint × List ℕ))
     → noted ≡ map shown_datagram sent → now ≡ w.moment → all ≡ back_to from said ++ noticed thing ns
     → noted ++ map (as_sent now) all ≡ map shown_datagram ((sent ++ sent_now w.moment server_place from purpose said) ++ map (notice_of w thing) ns)

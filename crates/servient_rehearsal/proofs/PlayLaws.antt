@@ -63,7 +63,7 @@ comes_here place i w d there is =
     let same : there.0 ≡ d = sym (is ∙ get_or_from_slice_get w.sent.items i there.0 d there.1) in
     subst (ComesHere place i w) same (record { at = there.1; may = there.2; to = there.3 })
 
--- what is noted of news and of the reply
+-- the notes of news and of the reply
 abbrev pub with_told : Endpoint → Delivered → Bool → List ℕ → ℕ → Noted → Noted
 with_told from told ends new k n = with_reply from (option_map (λ (m : ℕ). take m new) told.reply) (with_news told.news ends k n)
 

@@ -41,7 +41,7 @@ leaves_same (heard e ∷ happened) before now none whole l = absurd (cc)
 leaves_same (did a ∷ happened) before now none whole l = leaves_same happened before now none whole l
 leaves_same (broke call ∷ happened) before now none whole l = absurd (let broken = whole in omega arith)
 
--- what happened since nothing did
+-- the happenings since there were none
 all_since : (now : Option (List Happening)) (happened : List Happening) (acts : List Act) → Continues (Some []) now happened → IsSome now → IfSome now (λ all. acts_in all ≡ acts)
     → acts_in happened ≡ acts
 all_since None happened acts continues some told = absurd (cc)
@@ -110,7 +110,7 @@ heard_all site e old new before after was now first acts noted then_noted histor
 
 -- ---- a datagram that is cut
 
--- what is known of a step, whatever bytes came
+-- the facts of a step, whichever bytes came
 pub record StepsLike (site : Site) (e : EventWithBytes) (s : State) (new : Layers) (before after : List Seen) (sent : List (Endpoint × List ℕ)) : Type 0 where
   pub steps : StepsFrom site e s new before after
   pub same : datagrams_in steps.seen ≡ sent

@@ -1,4 +1,5 @@
--- The values that the client takes are those of the world: the ask that registered last is the one for which they were sent.
+-- The values that the client takes are those of the world: the ask that registered last is the one for which they were
+-- sent.
 use Rattle.std.proofs.Common.{◌≡◌, ◌∙◌, ℕ, ◌+◌, ◌<◌, ◌≤◌, Bool, true, false, cond, List, [], ◌∷◌, ◌++◌, map, length, refl, sym, ap, subst, arith}
 use Rattle.std.specs.Prelude.{Option, Some, None, slice_get}
 use Rattle.std.proofs.lemmas.Option.{same_Some}
@@ -133,7 +134,7 @@ value_delivered exchanges w i d told old new t s few at to (of_fault f has reply
 
 -- ---- turns
 
--- what a turn adds to the values
+-- the values that a turn adds
 abbrev AddsValues : (p q : EndsState) (values : List TakenValue) → Type 0
 AddsValues p q values = shown_values q.world.taken ≡ shown_values p.world.taken ++ values
 
@@ -207,7 +208,7 @@ takes_more : (site : Site) (before : List Turn) (m : Turn) (p q r : EndsState) �
 takes_more site [] m p q r same one = (r, subst (λ (x : EndsState). Takes site m x r) same one, refl)
 takes_more site (x ∷ before) m p q r all one = (all.0, all.1, takes_more site before m all.0 q r all.2 one)
 
--- what was taken so far is what the world has
+-- the values that were taken so far are those of the world
 record TakenSo (p q : Played) : Type 0 where
   asks : length p.ends.world.asks ≤ length q.ends.world.asks
   values : length q.ends.world.asks ≤ 65536 → p.values ≡ shown_values p.ends.world.taken → q.values ≡ shown_values q.ends.world.taken

@@ -8,7 +8,7 @@ use Rattle.servient_ends.specs.Ends.{Turn, asks_next, does_due, delivers, passes
 use Rattle.servient_rehearsal.specs.declared.moves.Move.{Move}
 use Rattle.servient_rehearsal.specs.declared.moves.Move.TheVariants as move
 
--- what a network may give: `MayCome`, as a test
+-- a network may give this: `MayCome`, as a test
 abbrev pub is_possible : What → Bool
 is_possible (what.Opened c) = nat_lt c 64
 is_possible (what.Bytes c count) = nat_lt c 64 && (nat_le 1 count && nat_le count 4096)
@@ -30,7 +30,7 @@ is_of_an_end (what.Ended c) = false
 is_of_an_end what.Tick = false
 is_of_an_end what.Stop = false
 
--- This comes to the servient besides. Where no network gives that, the move is skipped: no time passes.
+-- This comes to the servient besides. Where no network gives that, the move is skipped, so that no time passes.
 abbrev pub turn_besides : What → List ℕ → Turn
 turn_besides w bytes = if is_given w bytes then happens w bytes else passes 0
 

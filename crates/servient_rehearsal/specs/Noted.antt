@@ -1,4 +1,4 @@
--- What is noted of a rehearsal, and what each thing that happens adds to it.
+-- The notes on a rehearsal, and the addition of each happening to them.
 use Rattle.std.specs.Prelude.{◌≡◌, ◌+◌, ◌-◌, ◌*◌, ℕ, nat_lt, Bool, true, false, List, [], ◌∷◌, ◌++◌, length, map, get_or, if◌then◌else◌}
 use Rattle.coap_msg.specs.declared.endpoint.Endpoint.{Endpoint}
 use Rattle.coap_client.specs.declared.outstanding.Outstanding.{Outstanding}
@@ -13,7 +13,7 @@ use Rattle.servient_rehearsal.specs.declared.world.End.{End}
 use Rattle.servient_rehearsal.specs.declared.world.End.TheVariants as end
 use Rattle.servient_rehearsal.specs.declared.world.TakenValue.{TakenValue}
 
--- what `World` of src/world.rt has, apart from where it lies in memory
+-- the parts that `World` of src/world.rt has, apart from where it lies in memory
 pub record Noted : Type 0 where
   pub moment : ℕ
   pub sent : List SentDatagram
@@ -58,7 +58,7 @@ with_value k value n = record n { taken = n.taken ++ record { ask = k; value = v
 abbrev pub number_after : Bool → ℕ → ℕ → ℕ
 number_after registers k before = if registers then k else before
 
--- what news add, which end the last ask or don't
+-- the addition of news, which end the last ask or don't
 abbrev pub with_end_if : Bool → End → Noted → Noted
 with_end_if true e n = with_end e n
 with_end_if false e n = n

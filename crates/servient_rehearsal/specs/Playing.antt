@@ -1,4 +1,4 @@
--- What the functions that play a move promise: turns of the world of both ends, which the real objects made.
+-- The promises of the functions that play a move: turns of the world of both ends, which the real objects made.
 use Rattle.std.specs.Prelude.{◌≡◌, ◌≤◌, ◌<◌, ◌+◌, ◌-◌, ◌&&◌, ◌||◌, ◌⊎◌, ℕ, nat_le, Bool, true, false, List, [], ◌∷◌, ◌++◌, length, map, Option, Some, None, slice_get}
 use Rattle.servient_base.specs.Moves.{Stays, Each, Makes}
 use Rattle.coap_msg.specs.declared.endpoint.Endpoint.{Endpoint}
@@ -117,7 +117,7 @@ pub record NotesGoOn (old new : Notes) : Type 0 where
 
 -- ---- a datagram that comes
 
--- what was sent may still come: `may_come` of the world, of what is noted
+-- a datagram that was sent may still come: `may_come` of the world, of its note
 abbrev pub may_come_now : ℕ → SentDatagram → Bool
 may_come_now now d = nat_le (now - d.moment) MAX_LATENCY && (is_same_endpoint d.to client_place || is_same_endpoint d.to server_place)
 

@@ -1,5 +1,5 @@
--- What a rehearsal is: a run of the world of both ends, from its beginning, which the real objects made. The laws of that
--- world hold of it. Of rows it is said over how asks ended in the world, which is what is noted of that (`shown`).
+-- A rehearsal is a run of the world of both ends, from its beginning, which the real objects made. The laws of that
+-- world hold of it. Those of rows speak of the ends of asks in the world, of which the notes show this (`shown`).
 use Rattle.std.specs.Prelude.{◌≡◌, ◌≤◌, ◌⊎◌, ℕ, List, [], ◌∷◌, ◌++◌, length, map, Contains, Option}
 use Rattle.servient_base.specs.Moves.{Each}
 use Rattle.coap_msg.specs.declared.block.Block.{Block}
@@ -26,8 +26,8 @@ use Rattle.servient_rehearsal.specs.Playing.{IsShown}
 abbrev pub IsUnused : Layers → Type 0
 IsUnused servient = (exchanges : ℕ) × (epoch : Option ℕ) × StandsFor servient (start servient.exposed.site exchanges epoch)
 
--- A run by these moves, from a new world which the real objects stood for, to one that they stand for as they are left. What the
--- rack shows are the calls of handlers that are seen of it.
+-- A run by these moves, from a new world which the real objects stood for, to one that they stand for as they are left.
+-- The rack shows the calls of handlers in its trace.
 pub record IsRun (site : Site) (moves : List Move) (old_servient servient : Layers) (old new : ClientState) (before after : List Seen) : Type 0 where
   pub first_id : ℕ
   pub exchanges : ℕ
@@ -43,14 +43,14 @@ pub record IsRun (site : Site) (moves : List Move) (old_servient servient : Laye
   pub client_is : to.ends.world.client ≡ new
   pub rack : RackShows before after (calls_in seen)
 
--- What came of the moves is seen of such a run, and more holds of it.
+-- The outcome of the moves is seen of such a run, and more holds of it.
 pub record Rehearses (site : Site) (moves : List Move) (old_servient servient : Layers) (old new : ClientState) (before after : List Seen) (w : World) : Type 0 where
   pub run : IsRun site moves old_servient servient old new before after
   pub shown : IsShown (noted_of w) run.to
   -- For each ask the servient made at most one act.
   pub acts_once : AreForDifferentAsks run.to.ends.world.acts
-  -- For an ask for another path than that of the links, without a block of its body and without one after the first of the
-  -- response, which ended with a response that is no excuse it made one, and the response says what that came to.
+  -- For an ask for another path than that of the links, without a block of its body and without one after the first of
+  -- the response, which ended with a response that is no excuse it made one, and the response says what that came to.
   pub answers_once : (k code : ℕ) (block : Option Block) (payload : List ℕ) → length w.asks.items ≤ 65536
       → ¬ (AsksLinks run.to.ends.world.asks k) → ¬ (AsksOfBlocks run.to.ends.world.asks k)
       → Contains w.ends.items (record { ask = k; end = end.Answered code block payload })
@@ -64,11 +64,11 @@ pub record Rehearses (site : Site) (moves : List Move) (old_servient servient : 
   pub sources : length w.asks.items ≤ 65536 → HaveASource run.to.ends.world.acts run.to.ends.world.emitted run.to.ends.world.taken
   -- For one ask none is of an earlier emission than one before it, and the one that was read comes first.
   pub order : length w.asks.items ≤ 65536 → run.to.ends.world.ids ≤ 65536 → NeverGoBack run.to.ends.world.taken
-  -- What a row of asks for the blocks of one body read is of one act, or of the links of the servient.
+  -- A row of asks for the blocks of one body read of one act, or of the links of the servient.
   pub reads : (path : List (List ℕ)) (szx : ℕ) (x : RowAsk) (row : List RowAsk) → length w.asks.items ≤ 65536
       → AreReads run.to.ends.world.asks run.to.ends.world.ends path szx 0 (x ∷ row) → AreInOrder (x ∷ row)
       → NoOther run.to.ends.world.asks (IsOfPath path) x row → AreOfOneAct path run.to.ends.world x row
-  -- What a row of asks with the blocks of one body wrote was acted on once, whole.
+  -- A row of asks with the blocks of one body was acted on once, whole.
   pub writes : (code : ℕ) (path : List (List ℕ)) (szx : ℕ) (x : RowAsk) (row : List RowAsk) → length w.asks.items ≤ 65536 → IsWrite code
       → AreWrites run.to.ends.world.asks run.to.ends.world.ends code path szx 0 (x ∷ row) → AreInOrder (x ∷ row)
       → NoOther run.to.ends.world.asks (IsOfCodeAndPath code path) x row → IsOneAct run.to.ends.world x row

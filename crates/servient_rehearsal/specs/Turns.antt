@@ -1,4 +1,4 @@
--- What is seen of a turn of the world of both ends: what happens at the servient, and which values the client takes.
+-- The trace of a turn of the world of both ends: the happenings at the servient, and the values that the client takes.
 use Rattle.std.specs.Prelude.{◌≡◌, ℕ, List, [], ◌∷◌, ◌++◌, Option, Some, None, slice_get}
 use Rattle.coap_msg.specs.declared.endpoint.Endpoint.{Endpoint}
 use Rattle.coap_client.specs.declared.news.News.{News}
@@ -35,7 +35,7 @@ seen_besides site (what.Ended c) bytes p q b = b.seen
 seen_besides site what.Tick bytes p q b = b.seen
 seen_besides site what.Stop bytes p q b = b.seen
 
--- what is seen of the servient in a turn
+-- the trace of the servient in a turn
 abbrev pub seen_by : (site : Site) (m : Turn) (p q : EndsState) → Takes site m p q → List Sighting
 seen_by site (asks_next a) p q takes = []
 seen_by site does_due p q takes = []

@@ -1,4 +1,4 @@
-//! The client asks, and does what is due.
+//! The client asks, and sends the copies that are due.
 
 ghost use Rattle.std.specs.Prelude.{◌≡◌, ◌≤◌, ◌<◌, ◌^◌, ◌↔◌, length, IfSome, IsTrue, OnErr, OnOk};
 ghost use Rattle.coap_client.specs.Asking.{asking_of, MayAsk};
@@ -31,8 +31,8 @@ pub fn ask_servient(client: &mut Client, notes: &mut Notes, ask: &Ask<'_>) -> Re
     }
 }
 
-/// Whether this may be asked: a code of class 0 that isn't 0.00, segments of at most 255 bytes, and blocks that an option
-/// can say.
+/// Whether this may be asked: a code of class 0 that isn't 0.00, segments of at most 255 bytes, and blocks that an
+/// option can say.
 #[tactic(auto, using(crate::proofs::ClientLaws::may_be_asked))]
 fn may_ask(ask: &Ask<'_>) -> bool
     ensures { IsTrue result ↔ MayAsk (asking_of ask.now) }
@@ -44,8 +44,8 @@ fn may_ask(ask: &Ask<'_>) -> bool
         && has_short_segments(ask.path)
 }
 
-/// Whether an option can say this block, if there is one: its number has 20 bits, and its size is one of the seven there
-/// are (RFC 7959, section 2.2).
+/// Whether an option can say this block, if there is one: its number has 20 bits, and its size is one of the seven
+/// there are (RFC 7959, section 2.2).
 #[tactic(auto, using(crate::proofs::ClientLaws::can_be_said))]
 fn can_be_said(block: Option<Block>) -> bool
     ensures { IsTrue result ↔ IfSome block IsBlock }
@@ -87,7 +87,7 @@ fn registers(observe: Option<bool>) -> bool
     }
 }
 
-/// The client does what is due.
+/// The client does the work that is due.
 pub fn do_due(client: &mut Client, notes: &mut Notes) -> Result<(), NoMemory>
     requires moment { client.old.moment ≤ notes.old.world.moment }
     requires few { length notes.old.world.asks.items < 2 ^ 32 }

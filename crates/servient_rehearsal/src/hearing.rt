@@ -1,4 +1,4 @@
-//! The servient steps on an event, and what it sends is noted.
+//! The servient steps on an event, and the datagrams that it sends are noted.
 
 ghost use Rattle.std.specs.Prelude.{◌≡◌, ◌≤◌, ◌++◌, ◌^◌, length, OnErr, OnOk};
 ghost use Rattle.thing_site.specs.Fits.{Fits};
@@ -15,7 +15,8 @@ use servient_outside::{Act, Calls, Event, Events, NetMemory, What};
 use std::alloc::AllocError;
 use thing_handler::Handlers;
 
-/// Hands what came to the servient, by one real call on a network in memory of its own, and notes what it sends.
+/// Hands an event to the servient, by one real call on a network in memory of its own, and notes the datagrams that it
+/// sends.
 pub fn hear<R: Handlers>(
     servient: &mut Servient,
     rack: &mut R,

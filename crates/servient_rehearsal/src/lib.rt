@@ -1,10 +1,10 @@
 //! A rehearsal: a list of moves is played by the real objects of both ends, a servient and a CoAP client, in a network
-//! that may lose, repeat and reorder what either sends within 100 seconds. `rehearse` is the one call.
+//! that may lose, duplicate and reorder datagrams of either within 100 seconds. `rehearse` is the one call.
 //!
 //! ```
 //! use servient_rehearsal::{Move, rehearse};
 //!
-//! // The client asks for the status of a lamp, and what it sends comes twice.
+//! // The client asks for the status of a lamp, and its datagram comes twice.
 //! let mut moves = Vec::new(alloc);
 //! let (block1, block2, payload) = (None, None, Bytes::new(alloc));
 //! moves.push(Move::Ask { code: 1, path, observe: None, format: None, block1, block2, payload })?;
@@ -17,8 +17,8 @@
 //! assert_eq!(world.ends.len(), 1);
 //! ```
 //!
-//! The contract in a sentence: what comes of the moves is a run of the world of both ends (`servient_ends`), which the
-//! real objects made, and so its laws hold of it (`Rehearses` of `specs/Rehearsal.antt`).
+//! The contract in a sentence: the moves make a run of the world of both ends (`servient_ends`), which the real objects
+//! made, so that its laws hold of it (`Rehearses` of `specs/Rehearsal.antt`).
 #![tactic(auto)]
 
 mod asking;

@@ -9,7 +9,7 @@ use servient_outside::What;
 use thing_ops::Segments;
 use wot_json::Bytes;
 
-/// What may happen. A move that the rules of the network don't allow is skipped.
+/// A move that may happen. One that the rules of the network don't allow is skipped.
 #[derive(Debug, Drop)]
 pub enum Move {
     /// The client asks the servient. An ask that may not be asked, or that the client refuses, is skipped.
@@ -18,30 +18,31 @@ pub enum Move {
         path: Segments,
         observe: Option<bool>,
         format: Option<u16>,
-        /// Which block of its body this is (RFC 7959, section 2.1).
+        /// The block of its body that this is (RFC 7959, section 2.1).
         block1: Option<Block>,
-        /// Which block of the response is wanted.
+        /// The block of the response that is wanted.
         block2: Option<Block>,
         payload: Bytes,
     },
-    /// The client does what is due.
+    /// The client does the work that is due.
     Due,
-    /// The datagram of this number comes to where it was sent, if that was in the last 100 seconds. All that either end
-    /// sent is counted from 0.
+    /// The datagram of this number comes to where it was sent, if that was in the last 100 seconds. All datagrams of
+    /// either end are counted from 0.
     Deliver(u32),
     /// So many milliseconds pass.
     Pass(u64),
-    /// This comes to the servient besides, with these bytes: what a network may give, but no datagram of either end.
+    /// This event comes to the servient besides, with these bytes: one that a network may give, but no datagram of
+    /// either end.
     Other(What, Bytes),
 }
 
 /// Moves, the first of which comes first.
 pub type Moves = Vec<Move>;
 
-/// How many moves may be rehearsed.
+/// The most moves that may be rehearsed.
 const MOST_MOVES: usize = 1_000_000;
 
-/// How many milliseconds may pass in a rehearsal.
+/// The most milliseconds that may pass in a rehearsal.
 const LONGEST_TIME: u64 = 1_000_000_000_000_000;
 
 /// Whether moves may be rehearsed: they are at most 1,000,000, and at most 10^15 milliseconds pass in them.
@@ -62,7 +63,7 @@ pub fn are_short(moves: &Moves) -> bool
     true
 }
 
-/// How many milliseconds pass in a move.
+/// The milliseconds that pass in a move.
 fn passed_by(next: &Move) -> u64
     ensures { result ≡ time_of next.now }
 {

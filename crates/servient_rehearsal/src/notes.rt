@@ -1,4 +1,4 @@
-//! What is noted of a rehearsal as it goes on.
+//! The notes on a rehearsal as it goes on.
 
 ghost use Rattle.std.specs.Prelude.{◌≡◌, ◌<◌, ◌^◌, length, OnOk};
 ghost use Rattle.servient_rehearsal.specs.Noted.{noted_of, nothing_noted, id_in as id_at, with_datagram, with_ask, with_end, with_value, number_after};
@@ -72,7 +72,7 @@ impl Notes {
         self.sent(CLIENT, SERVIENT, bytes)
     }
 
-    /// Notes how the last ask ended.
+    /// Notes the end of the last ask.
     pub fn ended(&mut self, end: End) -> Result<(), NoMemory>
         requires { length self.old.world.asks.items < 2 ^ 32 }
         ensures noted { OnOk result (noted_of self.new.world ≡ with_end end (noted_of self.old.world)) }
@@ -83,7 +83,7 @@ impl Notes {
         Ok(())
     }
 
-    /// Notes that the client took a value of what it observes.
+    /// Notes that the client took a value of its observation.
     pub fn took(&mut self, value: &[u8]) -> Result<(), NoMemory>
         ensures noted { OnOk result (noted_of self.new.world ≡ with_value self.old.registered value.now (noted_of self.old.world)) }
         ensures registered { self.new.registered ≡ self.old.registered }

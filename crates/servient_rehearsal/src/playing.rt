@@ -75,7 +75,7 @@ pub fn play<R: Handlers>(
     }
 }
 
-/// Who receives a datagram.
+/// The receiver of a datagram.
 enum Receiver {
     /// Nobody: there is none of its number, or it was sent too long ago or to elsewhere.
     Nobody,
@@ -110,7 +110,7 @@ fn deliver<R: Handlers>(
     }
 }
 
-/// Who receives the datagram of this number now.
+/// The receiver of the datagram of this number now.
 fn receiver_of(world: &World, index: usize) -> Receiver
     ensures { IsReceiver index world.now result }
 {
@@ -150,6 +150,7 @@ fn hear_sent<R: Handlers>(
     let from = datagram.from;
     let bytes = datagram.bytes.as_slice();
     let size = bytes.len().min(LONGEST_GIVEN);
+    // A copy, since the notes are lent to the call below.
     let bytes = Bytes::copy_of(notes.alloc, &bytes[..size])?;
     hear(
         servient,

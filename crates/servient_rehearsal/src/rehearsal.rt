@@ -18,8 +18,8 @@ use servient_core::Servient;
 use std::alloc::Global;
 use thing_handler::Handlers;
 
-/// Plays moves with a new servient and a new client, and gives what came of them. Out of memory leaves both ends as the
-/// first part of the moves leaves them.
+/// Plays moves with a new servient and a new client, and gives the world after them. Out of memory leaves both ends as
+/// the first part of the moves leaves them.
 pub fn rehearse<R: Handlers>(
     alloc: Global,
     servient: &mut Servient,
@@ -42,7 +42,8 @@ pub fn rehearse<R: Handlers>(
     Ok(world)
 }
 
-/// Plays moves, of which nothing is noted yet.
+/// Plays moves, of which nothing is noted yet. The notes are lent, since a function pays at each early exit for what it
+/// owns.
 fn play_all<R: Handlers>(
     servient: &mut Servient,
     client: &mut Client,

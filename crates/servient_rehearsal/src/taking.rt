@@ -23,6 +23,7 @@ pub fn take_sent(client: &mut Client, notes: &mut Notes, index: usize) -> Result
 {
     let datagram = &notes.world.sent[index];
     let from = datagram.from;
+    // A copy, since the notes are lent to the calls below.
     let bytes = Bytes::copy_of(notes.alloc, datagram.bytes.as_slice())?;
     let mut room = [0; LONGEST_MESSAGE];
     let was_outstanding = client.has_outstanding();

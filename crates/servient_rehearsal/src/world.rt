@@ -1,30 +1,30 @@
-//! What is seen of a rehearsal.
+//! The world of a rehearsal, as it is seen.
 
 use coap_msg::{Block, Endpoint};
 use wot_json::Bytes;
 
-/// Where the client is.
+/// The place of the client.
 pub const CLIENT: Endpoint = Endpoint {
     host: 1,
     port: 49152,
 };
 
-/// Where the servient is.
+/// The place of the servient.
 pub const SERVIENT: Endpoint = Endpoint {
     host: 2,
     port: 5683,
 };
 
-/// What came of the moves of a rehearsal. Each list is in the order in which it came about.
+/// The outcome of the moves of a rehearsal. Each list is in the order in which it came about.
 #[derive(Debug, Drop)]
 pub struct World {
     /// All datagrams that either end sent.
     pub sent: SentList,
     /// The asks that were made and not skipped.
     pub asks: AskList,
-    /// How asks ended.
+    /// The ends of asks.
     pub ends: EndList,
-    /// The values that the client took of what it observes.
+    /// The values that the client took of its observation.
     pub taken: TakenList,
     /// The time that passed, in milliseconds.
     pub moment: u64,
@@ -38,7 +38,7 @@ pub type EndList = Vec<AskEnd>;
 
 pub type TakenList = Vec<TakenValue>;
 
-/// A datagram, and when it was sent, from where to where.
+/// A datagram, with the moment and the two places of its way.
 #[derive(Debug, Drop)]
 pub struct SentDatagram {
     /// Milliseconds since the beginning.
@@ -55,7 +55,7 @@ pub struct AskMade {
     pub ask: u32,
     /// Its message ID.
     pub id: u16,
-    /// When it was sent first, in milliseconds.
+    /// The moment at which it was sent first, in milliseconds.
     pub first: u64,
 }
 
@@ -67,13 +67,13 @@ pub struct AskEnd {
     pub end: End,
 }
 
-/// How an ask ended.
+/// The end of an ask.
 #[derive(Debug, Drop)]
 pub enum End {
     /// By a response, with its code, the block of its body that it says if it says one (RFC 7959, section 2.1), and its
     /// payload.
     Answered(u8, Option<Block>, Bytes),
-    /// By a value of what it registered for.
+    /// By a value of its registration.
     Observed,
     /// By a Reset (RFC 7252, section 4.2).
     Reset,

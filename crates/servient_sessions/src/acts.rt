@@ -1,11 +1,12 @@
-//! What was done to the network, in words.
+//! The acts on the network, in words.
 
 use case_notation::{put, put_message};
 use servient_outside::{Act, Place};
 use std::alloc::AllocError;
 use std::fmt::Write;
 
-/// Writes where it was to listen.
+/// Writes the place where it was to listen. The text is lent, since a function pays at each early exit for what it
+/// owns.
 fn put_place(text: &mut String, place: &Place) -> Result<(), AllocError> {
     let Place {
         http_host,

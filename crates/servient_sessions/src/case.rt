@@ -24,7 +24,7 @@ use std::alloc::{AllocError, Global};
 use thing_handler::SHIPPED_SLOTS;
 use wot_json::{Bytes, Text};
 
-/// What lies there, what fails, the events, and the devices.
+/// The files, the failures, the events, and the devices.
 #[derive(Drop)]
 pub struct Case {
     alloc: Global,
@@ -36,11 +36,11 @@ pub struct Case {
     pub events: String,
     pub devices: Vec<Device>,
     pub slots: usize,
-    /// How many acts aren't printed.
+    /// The number of acts that aren't printed.
     pub hidden: usize,
     /// The network is out of memory.
     pub is_crowded: bool,
-    /// What is printed is written in words.
+    /// The output is written in words.
     pub is_in_words: bool,
     file: Option<HeldFile>,
     is_spelled: bool,

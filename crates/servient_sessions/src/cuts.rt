@@ -1,7 +1,7 @@
-//! A case that is run for each way to cut a stream of bytes. `cut once TEXT` cuts it at each place into two pieces,
-//! and `cut twice TEXT` at each pair of places into three, of which none is empty; at the end of a line `{1}`,
-//! `{2}` and `{3}` stand for the pieces. What comes of the first way is written, and of each other way only if
-//! something else comes of it.
+//! A case that is run for each way to cut a stream of bytes. `cut once TEXT` cuts it at each place into two pieces, and
+//! `cut twice TEXT` at each pair of places into three, of which none is empty; at the end of a line `{1}`, `{2}` and
+//! `{3}` stand for the pieces. The outcome of the first way is written, and that of each other way only if it is
+//! another.
 
 use crate::sessions::put_result;
 use case_notation::{bytes_of, put_digits};
@@ -52,7 +52,7 @@ fn filled(alloc: Global, block: &str, pieces: &Pieces<'_>) -> Result<String, All
     Ok(text)
 }
 
-/// What comes of a case with these pieces.
+/// The outcome of a case with these pieces.
 fn shown(alloc: Global, given: Given<'_>, pieces: &Pieces<'_>) -> Result<String, AllocError> {
     let lines = filled(alloc, given.block, pieces)?;
     let mut text = String::new(alloc);
@@ -60,7 +60,7 @@ fn shown(alloc: Global, given: Given<'_>, pieces: &Pieces<'_>) -> Result<String,
     Ok(text)
 }
 
-/// Writes what comes of a case with these pieces, if it is something else than what came first.
+/// Writes the outcome of a case with these pieces, if it is another than the first.
 fn put_way(
     text: &mut String,
     alloc: Global,
@@ -132,7 +132,7 @@ fn put_twice(
     Ok(())
 }
 
-/// Writes what comes of a case whose stream is cut in these words.
+/// Writes the outcomes of a case whose stream is cut in these words.
 ///
 /// # Errors
 ///

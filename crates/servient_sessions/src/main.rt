@@ -1,7 +1,7 @@
 //! Sessions of the servient on files, a network and devices in memory. Each word names a file. `scripts` and `faults`
-//! are files of rows: what is given, ` => `, and what comes of it. The others have cases, which are separated by empty
-//! lines; `case.rt` has the lines of a case. The program prints each case with what its command prints, what it does to
-//! the network, and the status that it ends with: so it prints its files, if all is right.
+//! are files of rows: an input, ` => `, and its outcome. The others have cases, which are separated by empty lines;
+//! `case.rt` has the lines of a case. The program prints each case with the print of its command, its acts on the
+//! network, and the status that it ends with, so that it prints its files, if all is right.
 #![tactic(auto)]
 
 mod acts;

@@ -1,4 +1,4 @@
-//! The command of a case: what it prints, what it does to the network, and its status.
+//! The command of a case: its print, its acts on the network, and its status.
 
 use crate::acts::put_acts;
 use crate::case::Case;
@@ -14,10 +14,10 @@ use std::{mem, str};
 use thing_handler::{Handler, Rack, SHIPPED_SLOTS, Scripted, shipped_in};
 use wot_json::Text;
 
-/// How many bytes of output are kept.
+/// The number of bytes of output that are kept.
 const MOST_OUTPUT: usize = 1_048_576;
 
-/// The words of a command, and the rack that it has: devices, and how many slots.
+/// The words of a command, and its rack: devices, and the number of slots.
 #[derive(Drop)]
 struct Command<'a> {
     words: &'a [Text],
@@ -116,7 +116,7 @@ fn run<N: Net>(
     Ok(servient_main(alloc, words, files, net, &mut rack, out))
 }
 
-/// Runs the command of a case, and writes what it did to the network: its status.
+/// Runs the command of a case, and writes its acts on the network: its status.
 fn status_of(
     acts: &mut String,
     alloc: Global,
@@ -154,7 +154,7 @@ fn put_output(
     Ok(())
 }
 
-/// Runs the command of a case, and writes what comes of it, the status in brackets.
+/// Runs the command of a case, and writes its outcome, the status in brackets.
 ///
 /// # Errors
 ///

@@ -1,5 +1,4 @@
-//! Scripts that are read: the events of each, or the line that is refused. A row of `faults` is a
-//! fault, and how it is shown.
+//! Scripts that are read: the events of each, or the line that is refused. A row of `faults` is a fault, and its text.
 
 use case_notation::{bytes_of, put};
 use servient_cli::{Script, ScriptFault};
@@ -7,7 +6,7 @@ use servient_outside::{EventWithBytes, Events};
 use std::alloc::{AllocError, Global};
 use std::fmt::Write;
 
-/// How many bytes a script may have.
+/// The most bytes that a script may have.
 pub const LONGEST_SCRIPT: usize = 16_777_216;
 
 /// Writes an event and its bytes.
@@ -25,7 +24,7 @@ fn put_events(text: &mut String, events: &Events) -> Result<(), AllocError> {
     Ok(())
 }
 
-/// Writes what a script is read as.
+/// Writes the events that a script is read as.
 fn put_script(text: &mut String, alloc: Global, script: &[u8]) -> Result<(), AllocError> {
     if script.len() > LONGEST_SCRIPT {
         return text.push_str("too long to be read");
@@ -36,7 +35,7 @@ fn put_script(text: &mut String, alloc: Global, script: &[u8]) -> Result<(), All
     }
 }
 
-/// Writes how the fault of these words is shown.
+/// Writes the text of the fault of these words.
 fn put_fault(text: &mut String, given: &str) -> Result<(), AllocError> {
     let fault = match given.strip_prefix("line ") {
         Some(line) => ScriptFault::Line(line.parse::<u32>().unwrap_or(0)),

@@ -1,4 +1,4 @@
-//! Scripts in words, and what is printed read back into words.
+//! Scripts in words, and prints read back into words.
 //!
 //! ```text
 //! 0 data 1:5683 CON PUT 7 aa /lamp/properties/status 42
@@ -46,7 +46,7 @@ fn bytes_in(alloc: Global, digits: &str) -> Result<Vec<u8>, AllocError> {
     Ok(bytes)
 }
 
-/// Writes a line that was printed, with what is sent in words.
+/// Writes a line that was printed, with its bytes in words.
 ///
 /// # Errors
 ///

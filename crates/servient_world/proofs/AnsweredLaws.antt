@@ -1,4 +1,4 @@
--- Each move keeps what `Exact` says, so an ask that was answered was told what it led to.
+-- Each move keeps `Exact`, so an ask that was answered was told its effect.
 use Rattle.std.proofs.Common.{◌≡◌, ℕ, ◌+◌, ◌≤◌, Bool, true, false, Option, Some, None, List, [], ◌∷◌, ◌++◌, take, length, inl, inr, refl, sym, ap, subst, arith}
 use Rattle.std.specs.Prelude.{◌||◌, All, AllPairs, slice_get}
 use Rattle.std.proofs.lemmas.List.Elements.{All-nil, All-push}

@@ -1,5 +1,5 @@
--- What a client asks is a message, none of whose options is faulty, which has the blocks that are asked, and says to observe only
--- where it registers.
+-- An ask of a client is a message, none of whose options is faulty, which has the blocks that are asked, and says to
+-- observe only where it registers.
 use Rattle.std.proofs.Common.{◌≡◌, ◌≢◌, ℕ, ◌<◌, ◌≤◌, ◌&&◌, ◌∙◌, Bool, true, false, Option, Some, None, List, [], ◌∷◌, ◌++◌, length, refl, sym, ap, subst, arith}
 use Rattle.std.specs.Prelude.{◌==◌, nat_lt, nat_le, All, IfSome, option_and_then, slice_get}
 use Rattle.std.proofs.lemmas.Bool.Decides.{nat_tests}
@@ -73,7 +73,7 @@ path_fault before segment h =
     let least : nat_le 0 (length segment) ≡ true = grind (arith, nat_tests) in
     rw least (rw fits refl)
 
--- what follows Observe, the path and the format has no fault after any of them
+-- the options after Observe, the path and the format have no fault after any of them
 abbrev AreFaultless : List CoapOption → Type 0
 AreFaultless os = (before : Option ℕ) → IsBeforeBlocks before → faults_after before os ≡ []
 

@@ -1,5 +1,5 @@
--- What requests want of blocks, and the replies that say or end a block: they are messages, say nothing of Observe, and which block
--- they say (RFC 7959, section 2).
+-- The wishes of requests for blocks, and the replies that say or end a block: they are messages, say nothing of
+-- Observe, and say a certain block (RFC 7959, section 2).
 use Rattle.std.proofs.Common.{◌≡◌, ◌≢◌, ℕ, ◌+◌, ◌<◌, ◌≤◌, ◌^◌, Bool, true, false, Option, Some, None, List, [], ◌∷◌, ◌++◌, length, option_map, inl, inr, refl, sym, ap, subst, arith}
 use Rattle.std.specs.Prelude.{◌==◌, ◌||◌, nat_lt, codes, unwrap_or, if◌then◌else◌}
 use Rattle.std.proofs.lemmas.Bool.Decides.{nat_tests}
@@ -35,7 +35,7 @@ use Rattle.coap_bind.proofs.MessageLaws.{IsResponse}
 use Rattle.servient_world.specs.Laws.{blocks_joined, blocks_by, blocks_for}
 use Rattle.servient_world.proofs.ReplyLaws.{id_at}
 
--- ---- what a request wants
+-- ---- the wish of a request
 
 -- it asks for a block after the first
 pub record WantsLater (m : CoapMessage) (b : Block) : Type 0 where
@@ -101,7 +101,7 @@ wants_joining m b e = by_tests (m.code == GET) (m.code == POST || m.code == PUT)
     by_tests false true e' = body_at (what_is_asked m).block1 b e'
     by_tests false false e' = absurd cc
 
--- ---- what is said of an act is by what was asked
+-- ---- the reply on an act is by its request
 
 abbrev pub verb_if : Bool → Bool → Bool → Bool → Verb
 verb_if get post put delete = if get then verb.Get else if post then verb.Post else if put then verb.Put else if delete then verb.Delete else verb.Other
@@ -260,7 +260,7 @@ added_unnumbered b added r is = by_answer added is
     by_answer answer.TooLarge e = at large_reply e refl
     by_answer answer.Full e = at blocks_reply e refl
 
--- ---- which block they say
+-- ---- the block that they say
 
 -- Observe and ETag say none
 pub observed_block : (seen : Option ℕ) (r : Reply) → block_said (reply_options (observed seen r)) ≡ block_said (reply_options r)

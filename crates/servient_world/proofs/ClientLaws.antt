@@ -1,4 +1,5 @@
--- What the client does keeps what `Exact` says: what it sends goes to the server, and an answer or a value ends the ask that it is for.
+-- The client's moves keep `Exact`: its datagrams go to the server, and an answer or a value ends the ask that it is
+-- for.
 use Rattle.std.proofs.Common.{◌≡◌, ◌⊎◌, ℕ, ◌<◌, ◌≤◌, ◌∙◌, Bool, true, false, cond, Option, Some, None, List, [], ◌∷◌, ◌++◌, map, take, length, inl, inr, refl, sym, ap, subst, arith}
 use Rattle.std.specs.Prelude.{All, Contains, slice_get, option_map}
 use Rattle.std.specs.Option.{option_to_list}
@@ -128,7 +129,7 @@ latest_ends (Some o) None k news.Nothing = All-nil (λ (e : AskEnd). e.ask ≡ k
 latest_ends (Some o) (Some p) k what = All-nil (λ (e : AskEnd). e.ask ≡ k)
 latest_ends None after k what = All-nil (λ (e : AskEnd). e.ask ≡ k)
 
--- what comes to the client is a reply to an ask, or a notice
+-- a datagram that comes to the client is a reply to an ask, or a notification
 pub for_client : (w : WorldState) (led : List Entry) (d : Datagram) (p : Purpose) → IsSaid w.asks w.acts led d p → d.to ≡ client_place
     → (k : ℕ) × (IsSentBack w.asks led k d ⊎ ((q : ℕ) × IsNotice w.asks w.acts k q d))
 for_client w led d (copy_of k) is to = absurd (is to)
@@ -196,7 +197,7 @@ exact_taken capacity d w told old new t h few x k sent (of_message m spells repl
 exact_taken capacity d w told old new t h few x k sent (of_fault f has reply news_is same) =
     absurd (no_fault_of_message f sent.reply.answer d.bytes sent.reply.spells has)
 
--- ---- the client takes a notice
+-- ---- the client takes a notification
 
 -- bytes of an empty message
 abbrev AreEmpty : List ℕ → Type 0

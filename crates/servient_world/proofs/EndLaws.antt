@@ -1,4 +1,4 @@
--- What all moves together keep, and how asks ended.
+-- The facts that all moves together keep, and the ends of asks.
 use Rattle.std.proofs.Common.{◌≡◌, ◌⊎◌, ℕ, ◌≤◌, ◌∙◌, Option, Some, None, List, [], ◌∷◌, length, inl, inr, refl, sym, ap, subst, arith}
 use Rattle.std.specs.Prelude.{Contains, slice_get}
 use Rattle.std.proofs.lemmas.List.{length_push}
@@ -111,14 +111,14 @@ stands_after_all exchanges watchers (m ∷ moves) w v plays few s =
     let more = (all_grow moves plays.0 v plays.2).asks in
     stands_after_all exchanges watchers moves plays.0 v plays.2 few (stands_after exchanges watchers m w plays.0 plays.1 (omega arith) s)
 
--- ---- how asks ended
+-- ---- the ends of asks
 
 pub observed_once : ObservedOnce
 observed_once first_id exchanges watchers moves w v k start plays few has =
     let s = stands_after_all exchanges watchers moves w v plays few (stands_at_start first_id exchanges watchers w start) in
     All-contains (λ (e : AskEnd). IsEnd v.acts s.exact.led e.ask e.end) v.ends (record { ask = k; end = observed }) s.exact.ended has
 
--- what an ask was answered that was admitted
+-- the answer to an ask that was admitted
 answered_by : (v : WorldState) (x : Exact v) (k code : ℕ) (block : Option Block) (payload : List ℕ) (r : Reply) (e : Entry) → Contains x.led e → e.ask ≡ k → r ≡ e.reply
     → code ≡ r.code → block ≡ block2_of (reply_options r) → payload ≡ r.payload → ¬ (AsksLinks v.asks k) → ¬ (AsksOfBlocks v.asks k) → IsExcuse code payload ⊎ IsAnsweredBy v.acts k code block payload
 answered_by v x k code block payload r e has same reply code_is block_is payload_is no_links no_blocks =

@@ -1,5 +1,6 @@
--- What else holds of the world where no two asks have one id (`Exact`): what the copies of asks led to, of which each reply that is
--- kept or was sent is one, and so is each response that ended an ask; and each notification is of an ask that registered.
+-- Further facts on the world where no two asks have one id (`Exact`): the effects of the copies of asks, of which each
+-- reply that is kept or was sent is one, and so is each response that ended an ask; and each notification is of an ask
+-- that registered.
 use Rattle.std.proofs.Common.{◌≡◌, ◌≢◌, ◌⊎◌, ℕ, ◌<◌, ◌^◌, ◌∙◌, true, false, Some, List, [], ◌++◌, get_or, inl, inr, sym, ap, subst, arith}
 use Rattle.std.specs.Prelude.{All, AllPairs, Contains, slice_get}
 use Rattle.std.proofs.lemmas.Bool.{cases_lt}
@@ -23,7 +24,7 @@ use Rattle.servient_world.proofs.Joins.{Joins}
 
 -- ---- the invariant
 
--- why the server replies so to an ask: the table is full, or that is what the ask led to once it was admitted
+-- the cause for which the server replies so to an ask: the table is full, or the ask led to that once it was admitted
 abbrev pub IsWhy : List Entry → ℕ → Reply → Type 0
 IsWhy led k r = (r ≡ full_reply) ⊎ ((x : Entry) × Contains led x × (x.ask ≡ k) × (r ≡ x.reply))
 
@@ -44,7 +45,7 @@ pub record IsReply (asks : List Outstanding) (led : List Entry) (k : ℕ) (bytes
   pub shows : (q : ℕ) → sequence_of answer.options ≡ Some q → (q ≡ 0) × (request.registers ≡ true)
   pub why : IsWhy led k reply
 
--- an exchange of the client's is that of an ask, and what is kept is a reply to that
+-- an exchange of the client's is that of an ask, and its reply is one to that
 pub record IsOfAsk (asks : List Outstanding) (led : List Entry) (e : Exchange) : Type 0 where
   pub place : ℕ
   pub request : Outstanding
@@ -55,13 +56,14 @@ pub record IsOfAsk (asks : List Outstanding) (led : List Entry) (e : Exchange) :
 abbrev pub IsKept : List Outstanding → List Entry → Exchange → Type 0
 IsKept asks led e = e.arrival.from ≡ client_place → IsOfAsk asks led e
 
--- what was sent back on a copy of an ask is a reply to it; what was sent for anything else goes to neither end
+-- a datagram that was sent back on a copy of an ask is a reply to it; one that was sent for anything else goes to
+-- neither end
 pub record IsSentBack (asks : List Outstanding) (led : List Entry) (k : ℕ) (d : Datagram) : Type 0 where
   pub from : d.from ≡ server_place
   pub to : d.to ≡ client_place
   pub reply : IsReply asks led k d.bytes
 
--- a notification of what an ask registered for, for which an act was made
+-- a notification of the target for which an ask registered, for which an act was made
 pub record IsNotice (asks : List Outstanding) (acts : List Act) (k sequence : ℕ) (d : Datagram) : Type 0 where
   pub from : d.from ≡ server_place
   pub to : d.to ≡ client_place

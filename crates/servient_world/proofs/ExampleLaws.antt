@@ -25,7 +25,7 @@ use Rattle.coap_bind.specs.Treating.{Acted, Treats, acts}
 use Rattle.servient_world.specs.World.{client_place, server_place, copy_of, reply_to, other, WorldState, IsStart, latest, end_by, taken_by, with_sent, ClientAsks, sends_ask, treated, Comes, to_client, to_server, PlaysAll}
 use Rattle.servient_world.specs.Examples.{world_of, observe_root, ask_that_comes, ask_and_reply, SomeoneActs, SomeoneTakesAValue}
 
--- ---- what is sent
+-- ---- datagrams
 
 -- the token of a new client
 abbrev first_token : List ℕ
@@ -77,7 +77,7 @@ answer_bounds = record {
   empty = λ e. absurd (omega arith);
 }
 
--- ---- who sends it
+-- ---- the sender
 
 -- a new client
 abbrev fresh : List (Option ℕ) → State
@@ -171,7 +171,7 @@ short_question = let size = question_length in let same = ap length question_tak
 acting_plays : (uses : List (Option ℕ)) → Comes (record { moment = 0; from = client_place; to = server_place; bytes = take (length question_bytes) question_bytes; purpose = copy_of 0 }) (asked_world uses) (answered_world uses)
 acting_plays uses = to_server refl refl (record { act = Some act_made; back = answer_bytes ∷ []; after = answered_server; receives = treated short_question treats_it; next = refl })
 
--- ---- the client takes what the reply says
+-- ---- the client takes the value of the reply
 
 abbrev told_value : Delivered
 told_value = record { reply = None; news = news.Value (record { ref_ptr = (0, 0); now = [] }) }

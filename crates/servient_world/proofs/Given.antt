@@ -1,4 +1,4 @@
--- The bodies that the server keeps for the later blocks of what it reads (RFC 7959, section 2.4): the last that was given to the
+-- The bodies that the server keeps for their later blocks (RFC 7959, section 2.4): the last that was given to the
 -- client for a path is that of the last act of the ledger that leaves one, or the text of the links.
 use Rattle.std.proofs.Common.{◌≡◌, ℕ, ◌∙◌, ◌&&◌, ◌||◌, Bool, true, false, Option, Some, None, List, [], ◌∷◌, ◌++◌, option_map, length, refl, sym, ap, subst, append-nil}
 use Rattle.std.specs.Prelude.{◌==◌, if◌then◌else◌}
@@ -60,7 +60,7 @@ pub record Given (led : List Entry) (s : Server) : Type 0 where
   pub given : (path : List (List ℕ)) → is_links_path path ≡ false → option_map (λ (b : Body). b.content) (last_put path puts) ≡ given_to path led
   pub texts : (path : List (List ℕ)) (b : Body) → is_links_path path ≡ true → last_put path puts ≡ Some b → b.content ≡ links_content s.links
 
--- what is got for the client is the last that was put
+-- the body that is got for the client is the last that was put
 pub got_is_last : (path : List (List ℕ)) (now : ℕ) (puts bodies : List Body) (b : Body) → bodies ≡ kept_bodies puts → body_for client_place path now bodies ≡ Some b → last_put path puts ≡ Some b
 got_is_last path now puts bodies b same got =
     let last = the_last_body_is_got puts client_place path now b (subst (λ (bs : List Body). body_for client_place path now bs ≡ Some b) same got) in
@@ -108,7 +108,7 @@ no_entry path led = ap (given_to path) (append-nil led)
 without_nil : (led : List Entry) (s : Server) → Given (led ++ []) s → Given led s
 without_nil led s g = subst (λ (l : List Entry). Given l s) (append-nil led) g
 
--- ---- what comes from elsewhere
+-- ---- datagrams from elsewhere
 
 not_own : (path : List (List ℕ)) (from : Endpoint) (b : Body) → (from ≡ client_place → ⊥) → b.from ≡ from → (c : Bool) → is_body_of client_place path b ≡ c → c ≡ false
 not_own path from b apart place true e = absurd (apart (sym place ∙ (own_is client_place path b e).0))
@@ -151,7 +151,7 @@ given_elsewhere led from now m (to_act a) s t apart links leaves g =
     foreign_act led s t from (use_of now m.code (observing_in m) (what_is_asked m)) a.outcome apart links leaves.0 g
 given_elsewhere led from now m (to_act_on_whole b a) s t apart links leaves g = given_stays led s t leaves.0.bodies links g
 
--- ---- what comes from the client
+-- ---- datagrams from the client
 
 -- an entry that leaves no body
 plain_entry : (led : List Entry) (s t : Server) (x : Entry) → ((path : List (List ℕ)) (before : Option Content) → given_by path x.led before ≡ before) → t.bodies ≡ s.bodies → t.links ≡ s.links
@@ -177,7 +177,7 @@ text_entry led s t x path now is_it links_it links true bodies g =
     (λ other is own. refl) g
 text_entry led s t x path now is_it links_it links false bodies g = plain_entry led s t x (λ other before. ap (λ (l : Led). given_by other l before) is_it) bodies links g
 
--- what an act for a GET leaves, and what the ledger says of it
+-- the body that an act for a GET leaves, and the ledger's fact on it
 and_true : (c : Bool) → (c && true) ≡ c
 and_true true = refl
 and_true false = refl
@@ -218,7 +218,7 @@ act_entry false false false true led s t x a what now wants apart links is_it pa
 act_entry false false false false led s t x a what now wants apart links is_it path by bodies g =
     plain_entry led s t x (λ other before. ap (λ (l : Led). given_by other l before) is_it ∙ ap (λ (u : BlockUse). given_at other u a before) by) bodies links g
 
--- why an entry is an act
+-- the cause for which an entry is an act
 pub record IsActedOn (m : CoapMessage) (a : Acted) : Type 0 where
   pub wants : wanted_in m ≡ wanted.Act
   pub apart : asks_links m ≡ false
@@ -236,7 +236,7 @@ acted_on from now m links seen l r a (is_acted_on x wants apart same what code p
     record { wants = wants; apart = apart; what = subst (λ (y : Acted). y.what ≡ what_is_asked m) one what }
 acted_on from now m links seen l r a (is_acted_on_whole x b body wants apart same what code place says) is = absurd (cc)
 
--- the entry of what a copy of an ask leads to
+-- the entry of the effect of a copy of an ask
 pub given_admits : (led : List Entry) (now : ℕ) (m : CoapMessage) (seen : Option ℕ) (x : Entry) (s t : Server) → LeadsTo client_place now m s.links seen x.led x.reply → Leaves client_place now m x.led s t
     → t.links ≡ s.links → Given led s → Given (led ++ x ∷ []) t
 given_admits led now m seen x s t leads leaves links g = by_led x.led refl leaves
@@ -259,7 +259,7 @@ given_admits led now m seen x s t leads leaves links g = by_led x.led refl leave
         (ap (λ (w : PlainAsk). w.request.path) on.what) (ap blocks_for on.what) it.0 g
     by_led (to_act_on_whole b a) is it = plain_entry led s t x (none (to_act_on_whole b a) is (λ path before. refl)) it.0.bodies links g
 
--- what is found for a later block is what the entries before gave
+-- the body that is found for a later block is the one that the entries before gave
 pub given_for : (led : List Entry) (s : Server) (path : List (List ℕ)) (now : ℕ) (found : Option Content) → found ≡ option_map (λ (b : Body). b.content) (body_for client_place path now s.bodies)
     → Given led s → IsGivenFor path found s.links led
 given_for led s path now found is g = at (body_for client_place path now s.bodies) refl is

@@ -1,4 +1,4 @@
--- What holds of the world after each move, as far as an ask is acted on at most once.
+-- The facts on the world after each move, as far as an ask is acted on at most once.
 use Rattle.std.proofs.Common.{◌≡◌, ◌≢◌, ℕ, ◌+◌, ◌-◌, ◌<◌, ◌≤◌, ◌∙◌, ◌&&◌, Bool, true, false, Option, Some, None, List, [], ◌∷◌, ◌++◌, get_or, refl, sym, ap, subst, arith}
 use Rattle.std.specs.Prelude.{◌==◌, nat_lt, nat_le, All, AllPairs, Contains, slice_get}
 use Rattle.std.proofs.lemmas.Bool.Decides.{nat_tests}
@@ -41,7 +41,7 @@ pub record IsCopy (asks : List Outstanding) (d : Datagram) (k : ℕ) : Type 0 wh
   pub from : d.from ≡ client_place
   pub to : d.to ≡ server_place
 
--- what holds of what was sent for this
+-- facts on a datagram of this purpose
 abbrev pub IsSentFor : List Outstanding → Datagram → Purpose → Type 0
 IsSentFor asks d (copy_of k) = IsCopy asks d k
 IsSentFor asks d (reply_to k) = Unit {0}
@@ -64,7 +64,7 @@ abbrev pub IsActed : ℕ → List Arrival → List Outstanding → Act → Type 
 IsActed capacity history asks x = IsAdmitted capacity history asks x.ask
 
 pub record Holds (capacity : ℕ) (w : WorldState) : Type 0 where
-  -- both ends did what their crates say of all that they do
+  -- both ends have a course as their crates say
   pub did : ClientDid w.asks w.client
   pub client_moment : w.client.moment ≤ w.moment
   pub history : List Arrival
@@ -72,14 +72,14 @@ pub record Holds (capacity : ℕ) (w : WorldState) : Type 0 where
   pub server_moment : w.server.exchanges.moment ≤ w.moment
   -- each ask is a message
   pub messages : All HasMessage w.asks
-  -- each datagram was sent by now, and is what it was sent for
+  -- each datagram was sent by now, and is as its purpose says
   pub past : All (λ d. d.moment ≤ w.moment) w.sent
   pub purposes : All (λ d. IsSentFor w.asks d d.purpose) w.sent
   -- each act was made for an ask, and no two for one
   pub acted : All (IsActed capacity history w.asks) w.acts
   pub once : AllPairs (λ x y. x.ask ≢ y.ask) w.acts
 
--- ---- what was admitted stays so
+-- ---- an admitted request stays so
 
 kept_by_verdict : (before : List Arrival) (a e : Arrival) (v : Verdict) → Contains before e → Contains (after_verdict before a v) e
 kept_by_verdict before a e is_admitted has = Contains-append_left before (a ∷ []) e has
@@ -98,7 +98,7 @@ stays_admitted : (capacity : ℕ) (history more : List Arrival) (e : Arrival) �
 stays_admitted capacity history more e has =
     subst (λ (l : List Arrival). Contains l e) (sym (in_two capacity [] history more)) (kept_after capacity (admitted_among capacity history) more e has)
 
--- ---- what is kept as more is asked
+-- ---- facts that stay as more is asked
 
 pub copy_more : (asks more : List Outstanding) (d : Datagram) (k : ℕ) → IsCopy asks d k → IsCopy (asks ++ more) d k
 copy_more asks more d k c = record {
@@ -142,7 +142,7 @@ admitted_later capacity history more asks k c = record {
   first = c.first;
 }
 
--- what is sent because something came is no copy
+-- a reply to a datagram is no copy
 pub back : (asks : List Outstanding) (d : Datagram) (p : Purpose) → IsSentFor asks d (purpose_back p)
 back asks d (copy_of k) = tt
 back asks d (reply_to k) = tt
@@ -151,7 +151,7 @@ back asks d other = tt
 
 -- ---- the server
 
--- what holds of the server and of the acts after it took something
+-- facts on the server and on the acts after it took a datagram
 pub record Served (capacity : ℕ) (w : WorldState) (p : Purpose) (act : Option Acted) (t : Server) : Type 0 where
   pub history : List Arrival
   pub did : ServerDid capacity history t
@@ -183,7 +183,7 @@ same_table : (capacity : ℕ) (history : List Arrival) (s t : Server) → t ≡ 
 same_table capacity history s t e did =
     subst (λ (x : Server). ServerDid capacity (history ++ []) x) (sym e) (subst (λ (l : List Arrival). ServerDid capacity l s) (sym (append-nil history)) did)
 
--- what was asked and is answered now
+-- a request that was asked and is answered now
 pub answered_did : (capacity : ℕ) (history : List Arrival) (s u t : Server) (from : Endpoint) (bytes : List ℕ) (now : ℕ) (a : Acted) (ask : PendingReply) (reply : List ℕ)
     → Hears from bytes now (asked a.what ask) s u → ServerDid capacity history u → Answers ask a.outcome a.target reply u t → ServerDid capacity history t
 answered_did capacity history s u t from bytes now a ask reply hears did answer =
@@ -202,7 +202,7 @@ is_equal m n h = grind (arith, nat_tests)
 pub both_true : (b c : Bool) → b ≡ true → c ≡ true → (b && c) ≡ true
 both_true b c e f = rw e f
 
--- an arrival of the client's with this id, less than 247 seconds ago, is repeated
+-- an arrival of the client's with this id, less than 247 seconds ago, is duplicated
 pub repeats : (now : ℕ) (from : Endpoint) (m : CoapMessage) (e : Arrival) → from ≡ e.from → m.id ≡ e.id → e.kind ≡ Confirmable → now - e.moment < 247000
     → is_duplicate_of (arrival from now m) e ≡ true
 repeats now from m e place id kind soon =
@@ -212,7 +212,7 @@ repeats now from m e place id kind soon =
     let port : (from.port == e.from.port) ≡ true = is_equal from.port e.from.port (ap (λ (x : Endpoint). x.port) place) in
     both_true (lives now e) _ alive (both_true _ (m.id == e.id) (both_true (from.host == e.from.host) (from.port == e.from.port) host port) (is_equal m.id e.id id))
 
--- what may come was sent in the last 100 seconds
+-- a datagram that may come was sent in the last 100 seconds
 pub came_soon : (now : ℕ) (d : Datagram) → may_come now d ≡ true → now - d.moment ≤ MAX_LATENCY
 came_soon now d e = let first : nat_le (now - d.moment) MAX_LATENCY ≡ true = left (nat_le (now - d.moment) MAX_LATENCY) _ e in grind (arith, nat_tests)
   where
@@ -266,7 +266,7 @@ with_act capacity w d k act t u a ask reply h copy past soon hears answer is =
           duplicates_ask_nothing capacity h.history w.server u d.from d.bytes w.moment new.0 was.arrival h.served h.server_moment new.1 was.admitted again a.what ask hears));
     }
 
--- what was heard and answered, but not on a copy of an ask
+-- a datagram that was heard and answered, but is no copy of an ask
 with_other : (capacity : ℕ) (w : WorldState) (d : Datagram) (p : Purpose) (act : Option Acted) (t u : Server) (a : Acted) (ask : PendingReply) (reply : List ℕ)
     → Holds capacity w → Hears d.from d.bytes w.moment (asked a.what ask) w.server u → Answers ask a.outcome a.target reply u t → acts_for p act ≡ []
     → Served capacity w p act t

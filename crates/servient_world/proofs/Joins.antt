@@ -29,7 +29,7 @@ pub record Joins (led : List Entry) (s : Server) : Type 0 where
   pub apart : AreApart s.parts
   pub parts : Each (IsPart led) s.parts
 
--- what came of a block, by its answer
+-- the effect of a block, by its answer
 came : (led : List Entry) (from : Endpoint) (now : ℕ) (m : CoapMessage) (a : BlockArrival) (added : Added) (s : Server) (ps : List Part) → BlockComes from now m a added s ps → Joins led s
     → Outcome (IsPart led) (Before (IsPart led) a.block.number) a.origin a.payload added ps
 came led from now m a added s ps comes j =
@@ -58,7 +58,7 @@ without_nil led s j = subst (λ (l : List Entry). Joins l s) (append-nil led) j
 pub joins_same : (led : List Entry) (s t : Server) → t.parts ≡ s.parts → Joins led s → Joins led t
 joins_same led s t same j = without_nil led t (joins_stay led [] s t same (no_entry led) j)
 
--- ---- what comes from elsewhere
+-- ---- datagrams from elsewhere
 
 foreign_answer : (led : List Entry) (o : Origin) (payload : List ℕ) (number : ℕ) (added : Added) (t : Server) (ps : List Part) → (o.from ≡ client_place → ⊥) → t.parts ≡ ps
     → ((i : ℕ) → added ≡ answer.Complete i → ⊥) → Outcome (IsPart led) (Before (IsPart led) number) o payload added ps → Joins led t
@@ -88,7 +88,7 @@ not_whole_answer from now m links seen l r a added (is_joined b x wants same say
 not_whole_answer from now m links seen l r a added (is_acted_on x wants apart same what code place says) is i e = cc
 not_whole_answer from now m links seen l r a added (is_acted_on_whole x b body wants apart same what code place says) is i e = cc
 
--- whose a block is
+-- the sender of a block
 from_of : (from : Endpoint) (now : ℕ) (m : CoapMessage) (a : BlockArrival) → a ≡ block_arrival from now m a.block → a.origin.from ≡ from
 from_of from now m a same = ap (λ (x : BlockArrival). x.origin.from) same
 
@@ -117,7 +117,7 @@ joins_elsewhere led from now m links seen l r s t away leads leaves j = by_led l
     by_led (to_act a) is it = stays it.1
     by_led (to_act_on_whole b a) is it = gone b it.0.place it.0.parts it.0.comes it.0.after
 
--- ---- what comes from the client
+-- ---- datagrams from the client
 
 bytes_are : (led : List Entry) (a : BlockArrival) (own : Part) → own.origin ≡ a.origin → own.origin.from ≡ client_place → Before (IsPart led) a.block.number own
     → bytes_with a (part_of a.origin led) ≡ own.bytes ++ a.payload
@@ -190,7 +190,7 @@ joins_admits led now m links seen x s t leads leaves j = by_led x.led refl leave
     by_led (to_act a) is it = stays (to_act a) is (λ o before. refl) it.1
     by_led (to_act_on_whole b a) is it = gone (to_act_on_whole b a) is (λ o before. refl) b it.0.place it.0.parts it.0.comes it.0.after
 
--- what is acted on is what the entries before joined, and the last block
+-- the body that is acted on is the bytes that the entries before joined, and the last block
 pub whole_for : (led : List Entry) (now : ℕ) (m : CoapMessage) (b : BlockArrival) (body : List ℕ) (s t : Server) → (c : BodyCompletes client_place now m b s t) → body ≡ c.whole.bytes → Joins led s
     → body ≡ bytes_with b (part_of b.origin led)
 whole_for led now m b body s t c is j =

@@ -1,5 +1,5 @@
--- What the server keeps and sends back is as `Exact` says: on a copy of an ask a reply to it, on an empty message nothing, and what comes
--- from elsewhere makes no exchange of the client's.
+-- The server keeps and sends back replies as `Exact` says: on a copy of an ask a reply to it, on an empty message
+-- nothing, and a datagram from elsewhere makes no exchange of the client's.
 use Rattle.std.proofs.Common.{◌≡◌, ◌≢◌, ℕ, ◌<◌, ◌^◌, ◌∙◌, ◌&&◌, Bool, true, false, cond, Option, Some, None, List, [], ◌∷◌, ◌++◌, get_or, inl, inr, refl, sym, ap, subst, arith}
 use Rattle.std.specs.Prelude.{◌==◌, All, AllPairs, slice_get, option_map}
 use Rattle.std.specs.List.{find}
@@ -49,9 +49,9 @@ use Rattle.servient_world.proofs.LedgerLaws.{copy_message, entry_of}
 use Rattle.servient_world.proofs.WatchLaws.{effect_says, observing_says}
 use Rattle.servient_world.proofs.Exact.{IsWhy, IsReply, IsKept, IsEmpty, reply_later, kept_later, same_ask}
 
--- ---- what the server does with a copy of an ask
+-- ---- a copy of an ask at the server
 
--- what is kept and sent then
+-- the replies that are kept and sent then
 pub record IsRight (asks : List Outstanding) (led : List Entry) (k : ℕ) (said : List (List ℕ)) (es : List Exchange) : Type 0 where
   pub kept : All (IsKept asks led) es
   pub replies : All (IsReply asks led k) said
@@ -69,7 +69,7 @@ found_where p P (x ∷ xs) y all e =
 same_number : (m n : ℕ) → (m == n) ≡ true → m ≡ n
 same_number m n e = grind (arith, nat_tests)
 
--- what is repeated is of the same endpoint and has the same id
+-- a duplicate is of the same endpoint and has the same id
 same_exchange : (now : ℕ) (from : Endpoint) (m : CoapMessage) (e : Arrival) → is_duplicate_of (arrival from now m) e ≡ true → (from ≡ e.from) × (m.id ≡ e.id)
 same_exchange now from m e again =
     let same = (both (lives now e) (is_same_exchange (arrival from now m) e) again).1 in
@@ -133,7 +133,7 @@ message_by_led from now m links seen led r next none bounds small (is_acted_on a
 message_by_led from now m links seen led r next none bounds small (is_acted_on_whole a b body wants apart same what code place is) =
     subst (λ (x : Reply). IsWellFormed (coap_reply x (head_of m) next)) (sym is) (replies_are_messages a.outcome seen (Joined b) (head_of m) next code place bounds.id bounds.token small)
 
--- what a reply says of Observe: 0, where the request registers
+-- the value of Observe in a reply: 0, where the request registers
 abbrev pub ShowsFirst : Outstanding → Reply → Type 0
 ShowsFirst request r = (q : ℕ) → sequence_of (reply_options r) ≡ Some q → (q ≡ 0) × (request.registers ≡ true)
 
@@ -281,7 +281,7 @@ right_copy w led more d k act said t copy messages differ small kept each (is_ig
     let mine = copy_message w.asks d k m copy messages spells in
     absurd (faults mine.options)
 
--- ---- what it does with a datagram of another endpoint
+-- ---- a datagram of another endpoint
 
 living_of : (asks : List Outstanding) (led : List Entry) (now : ℕ) (s t : Server) → t.exchanges ≡ later now s.exchanges → All (IsKept asks led) s.exchanges.exchanges → All (IsKept asks led) t.exchanges.exchanges
 living_of asks led now s t same kept =
@@ -312,7 +312,7 @@ no_request_of d m empty spells request =
     let none : is_request m ≡ false = subst (λ (x : CoapMessage). is_request x ≡ false) (at_most_one_message empty.message m d.bytes empty.spells spells) empty.no_request in
     cc
 
--- ---- what it does with an empty message of the client's: it sends nothing back
+-- ---- an empty message of the client's, to which it sends nothing back
 
 pub nothing_back : (w : WorldState) (led : List Entry) (d : Datagram) (act : Option Acted) (said : List (List ℕ)) (t : Server) → IsEmpty d → All (IsKept w.asks led) w.server.exchanges.exchanges
     → IsTreated d.from d.bytes w.moment act said w.server t → (said ≡ []) × All (IsKept w.asks led) t.exchanges.exchanges

@@ -1,4 +1,4 @@
--- Whatever the server takes is passed over, or leads to one of what `Led` lists.
+-- Each datagram that the server takes is passed over, or leads to one of the cases of `Led`.
 use Rattle.std.proofs.Common.{◌≡◌, ◌≢◌, ◌⊎◌, ℕ, ◌∙◌, true, false, Option, Some, None, List, [], ◌∷◌, inl, inr, refl, sym, ap, subst}
 use Rattle.std.specs.Prelude.{option_map, slice_get}
 use Rattle.std.proofs.lemmas.Option.{same_Some}
@@ -35,7 +35,7 @@ use Rattle.coap_bind.specs.Treating.{Acted, ignores, answers, acts, sent_back}
 use Rattle.coap_bind.proofs.HistoryLaws.{not_replied, not_duplicate}
 use Rattle.servient_world.specs.Led.{Led, to_refusal, to_no_memory, to_links, to_later_block, to_parts, to_act, to_act_on_whole, act_in, LeadsTo, is_refused, finds_no_memory, gets_links, gets_no_links, gets_block, is_joined, is_acted_on, is_acted_on_whole, SameBlocks, BlockComes, leaves_text, leaves_nothing, drops_body, Leaves, IsPassedOver, IsLed, AllAreLed}
 
--- ---- what a reply leaves
+-- ---- the server after a reply
 
 -- nothing but the table of exchanges and the next message ID changed
 record Untouched (v t : Server) : Type 0 where
@@ -68,7 +68,7 @@ ask_in a ignored = a
 ask_in a (answered_at_once bytes) = a
 ask_in a (asked what ask) = ask
 
--- ---- what isn't admitted
+-- ---- datagrams that aren't admitted
 
 settled_over : (from : Endpoint) (bytes : List ℕ) (now : ℕ) (h : Heard) (act : Option Acted) (s t : Server) → act ≡ None → Settles from bytes now h s t
     → IsPassedOver bytes now act s t
@@ -104,7 +104,7 @@ settled_over from bytes now h act s t none (full m u met e same) =
       exchanges = λ n spells request. ap (λ (x : Server). x.exchanges) same ∙ (left.1 ∙ met.meets.1.1);
     }
 
--- ---- what is answered at once
+-- ---- requests that are answered at once
 
 -- a request that is admitted was replied to without an act
 led_so : (from : Endpoint) (bytes : List ℕ) (now : ℕ) (act : Option Acted) (back : List (List ℕ)) (s v u t : Server) (m : CoapMessage) (slot : ℕ) (led : Led) (r : Reply) (b : List ℕ)
@@ -190,7 +190,7 @@ led_to_links from bytes now act back s u t m slot b none met wants links replies
     (gets_links wants links refl (ap (links_reply size) met.same_links))
     (leaves_text links (left.bodies ∙ (ap (λ (text : List ℕ). with_text text u.bodies) met.same_links ∙ ap (with_text s.links) met.same_bodies)) (left.parts ∙ met.same_parts))
 
--- ---- what is asked and answered
+-- ---- requests that are asked and answered
 
 -- a request that is admitted was acted on
 led_acted : (from : Endpoint) (bytes : List ℕ) (now : ℕ) (act : Option Acted) (back : List (List ℕ)) (s v u t : Server) (m : CoapMessage) (slot : ℕ) (led : Led) (a : Acted) (use_it : BlockUse) (ask : PendingReply) (b : List ℕ)

@@ -1,5 +1,5 @@
--- What each copy of an ask that was admitted led to, in the order in which they were (`Entry`), and what that leaves of bodies and
--- parts. What holds of all entries is `Ledger`.
+-- The effects of the copies of asks that were admitted, in the order in which they were (`Entry`), and the bodies and
+-- parts afterwards. `Ledger` has the facts on all entries.
 use Rattle.std.proofs.Common.{◌≡◌, ◌≢◌, ◌⊎◌, ℕ, ◌+◌, ◌<◌, ◌≤◌, ◌∙◌, ◌&&◌, Bool, true, false, Option, Some, None, List, [], ◌∷◌, ◌++◌, take, length, get_or, inl, inr, refl, sym, ap}
 use Rattle.std.specs.Prelude.{◌==◌, All, AllPairs, Contains, slice_get, is_some, unwrap_or, if◌then◌else◌}
 use Rattle.std.proofs.lemmas.List.Elements.{Contains-append_left}
@@ -35,13 +35,13 @@ use Rattle.servient_world.proofs.BlockReplies.{wants_later, wants_joining, said_
 
 -- ---- entries
 
--- what the copy of an ask led to that was admitted, and the reply
+-- the effect of a copy of an ask that was admitted, and the reply
 pub record Entry : Type 0 where
   pub ask : ℕ
   pub led : Led
   pub reply : Reply
 
--- why: it is the message of that ask, and the act that it led to is noted
+-- its cause: it is the message of that ask, and the act that it led to is noted
 pub record IsEntry (asks : List Outstanding) (acts : List Act) (links : List ℕ) (x : Entry) : Type 0 where
   pub request : Outstanding
   pub ask : slice_get asks x.ask ≡ Some request
@@ -59,7 +59,7 @@ pub record HasEntry (led : List Entry) (act : Act) : Type 0 where
   pub same : entry.ask ≡ act.ask
   pub acted : act_in entry.led ≡ Some act.acted
 
--- what the first of two asks led to came before that of the second: it was sent less than 193 seconds after that
+-- the effect of the first of two asks came before that of the second: it was sent less than 193 seconds after that
 pub record IsInTime (asks : List Outstanding) (j k : ℕ) : Type 0 where
   pub one : Outstanding
   pub other : Outstanding
@@ -69,7 +69,7 @@ pub record IsInTime (asks : List Outstanding) (j k : ℕ) : Type 0 where
 
 -- ---- the body that an endpoint reads, and the part that it writes
 
--- the body that an act leaves for the later blocks of what is at a path, or the one before
+-- the body that an act leaves for the later blocks of the representation at a path, or the one before
 abbrev pub given_at : List (List ℕ) → BlockUse → Acted → Option Content → Option Content
 given_at path blocks.Whole a before = before
 given_at path (blocks.Joined b) a before = before
@@ -133,7 +133,8 @@ pub part_push : (o : Origin) (before : Option (List ℕ)) (led : List Entry) (x 
 part_push o before [] x = refl
 part_push o before (y ∷ led) x = part_push o (part_by o y.led before) led x
 
--- what comes of an entry is what those before it left: the body that is given, and the body that is acted on
+-- the effect of an entry is by the bodies that those before it left: the body that is given, and the body that is acted
+-- on
 abbrev pub IsGivenFor : List (List ℕ) → Option Content → List ℕ → List Entry → Type 0
 IsGivenFor path None links before = Unit {0}
 IsGivenFor path (Some c) links before = (is_links_path path ≡ true → c ≡ links_content links) × (is_links_path path ≡ false → given_to path before ≡ Some c)
@@ -159,11 +160,11 @@ IsTurnedAway observed = Unit {0}
 IsTurnedAway reset = Unit {0}
 IsTurnedAway timed_out = Unit {0}
 
--- If a later ask led to something before an earlier one did, that one had ended, and its end wasn't what it led to.
+-- If a later ask led to something before an earlier one did, that one had ended, and not by its effect.
 abbrev pub ComesFirst : List AskEnd → Entry → Entry → Type 0
 ComesFirst ends y x = x.ask < y.ask → (e : AskEnd) → Contains ends e → e.ask ≡ x.ask → IsTurnedAway e.end
 
--- ---- what holds of all
+-- ---- facts on all
 
 pub record Ledger (led : List Entry) (asks : List Outstanding) (acts : List Act) (s : Server) (now : ℕ) : Type 0 where
   -- each is of a request that was admitted
@@ -177,11 +178,11 @@ pub record Ledger (led : List Entry) (asks : List Outstanding) (acts : List Act)
   pub in_time : AllPairs (λ (x y : Entry). IsInTime asks x.ask y.ask) led
   pub past : All (λ (a : Outstanding). a.first ≤ now) asks
   pub rising : AllPairs (λ (a b : Outstanding). a.first ≤ b.first) asks
-  -- they are what the messages say, and all acts are among them
+  -- they are as the messages say, and all acts are among them
   pub entries : All (IsEntry asks acts s.links) led
   pub acts_have : All (HasEntry led) acts
 
--- ---- why an entry has its reply
+-- ---- the cause of an entry's reply
 
 -- an act, and its outcome as the server writes it
 pub record IsActReply (acts : List Act) (k : ℕ) (r : Reply) : Type 0 where

@@ -81,7 +81,7 @@ ledger_served led asks acts s t now more l did early links = record {
   acts_have = l.acts_have;
 }
 
--- the history of a server goes on by what it treats
+-- the history of a server goes on by each datagram that it treats
 pub did_treated : (capacity : ℕ) (history : List Arrival) (from : Endpoint) (bytes : List ℕ) (now : ℕ) (act : Option Acted) (back : List (List ℕ)) (s t : Server) → ServerDid capacity history s → s.exchanges.moment ≤ now
     → Treats from bytes now act back s t → (new : List Arrival) × AreArrivals from bytes now new × ServerDid capacity (history ++ new) t × (t.exchanges.moment ≤ now)
 did_treated capacity history from bytes now act back s t did early (ignores hears none is) = hearing_goes_on capacity history s t from bytes now _ did early hears
@@ -119,7 +119,7 @@ copy_message asks d k m copy messages spells =
     let one : m ≡ message.0 = at_most_one_message m message.0 d.bytes spells (subst (λ (b : List ℕ). Spells message.0 b) (sym copy.bytes) message.1.message.spells) in
     subst (IsAskOf copy.request) (sym one) message.1
 
--- the entry of what came of it
+-- the entry of its effect
 abbrev pub entry_of : ℕ → Led → Reply → Entry
 entry_of k led reply = record { ask = k; led = led; reply = reply }
 
@@ -207,7 +207,7 @@ ledger_admitted led asks acts s t now d k act back l copy messages past soon tre
       acts_have = acts_have_more led e acts act l.acts_have x.act_is;
     }
 
--- ---- what comes of entries
+-- ---- the effects of entries
 
 pub fed_push : (links : List ℕ) (led : List Entry) (x : Entry) → AreFed links led → IsFed links led x.led → AreFed links (led ++ x ∷ [])
 fed_push links led x fed new = λ k d within. elim (cases_lt k (length led)) [
@@ -222,7 +222,7 @@ fed_push links led x fed new = λ k d within. elim (cases_lt k (length led)) [
       (subst (λ (e : Entry). IsFed links led e.led) (sym (get_or_push led x d k (sym last))) new)
 ]
 
--- ---- how asks ended
+-- ---- the ends of asks
 
 pub turned_away : (led : List Entry) (k : ℕ) (r : Reply) (code : ℕ) → code ≡ r.code → (r ≡ full_reply) ⊎ ((x : Entry) × Contains led x × (x.ask ≡ k) × (r ≡ x.reply))
     → All (λ (y : Entry). y.ask ≢ k) led → code ≡ full_reply.code

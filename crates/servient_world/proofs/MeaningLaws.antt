@@ -1,4 +1,5 @@
--- What a message means to the client: what is taken, what isn't a value, and which ask a registration is.
+-- The meaning of a message to the client: messages that are taken, messages that are no values, and the ask of a
+-- registration.
 use Rattle.std.proofs.Common.{◌≡◌, ◌≢◌, ◌⊎◌, ℕ, ◌+◌, ◌-◌, ◌/◌, ◌<◌, ◌≤◌, ◌^◌, ◌∙◌, ◌&&◌, Bool, true, false, cond, Option, Some, None, List, [], ◌∷◌, ◌++◌, length, zero, suc, inl, inr, refl, sym, ap, subst, arith}
 use Rattle.std.specs.Prelude.{◌==◌, ◌||◌, slice_get}
 use Rattle.std.specs.Str.{bytes_eq}
@@ -63,7 +64,7 @@ if_value false x y q e none = absurd (none e)
 same_number : (m n : ℕ) → (m == n) ≡ true → m ≡ n
 same_number m n e = grind (arith, nat_tests)
 
--- an acknowledgement that is taken has the id of what is outstanding
+-- an acknowledgement that is taken has the id of the outstanding request
 pub taken_id : (s : State) (from : Endpoint) (m : CoapMessage) (o : Outstanding) → is_taken s from m ≡ true → m.kind ≡ Ack → s.outstanding ≡ Some o → m.id ≡ o.id
 taken_id s from m o taken kind is =
     let first = both _ _ taken in
@@ -86,7 +87,7 @@ none_if : (b : Bool) (x : Option ℕ) → x ≡ None → cond b x None ≡ None
 none_if true x e = e
 none_if false x e = refl
 
--- what is taken and isn't a notification is no value
+-- a message that is taken and isn't a notification is no value
 pub no_value_unless : (s : State) (from : Endpoint) (m : CoapMessage) (q : ℕ) → notified s from m ≡ None → meaning s from m ≡ meant.Value q → ⊥
 no_value_unless s from m q none e =
     let taken : is_taken s from m ≡ true = value_taken s from m q e in
@@ -99,7 +100,7 @@ pub no_value_without : (s : State) (from : Endpoint) (m : CoapMessage) (q : ℕ)
 no_value_without s from m q none e =
     no_value_unless s from m q (none_if (m.code / 32 == 2 && is_for_observation s.observation from m.token) (sequence_of m.options) none) e
 
--- ---- what a notice means
+-- ---- the meaning of a notification
 
 -- the number of a notification
 pub notice_number : (s : State) (from : Endpoint) (n : Notice) (value : List ℕ) (b : Bool) → is_for_observation s.observation from (token_of n) ≡ b → n.sequence < 2 ^ 24
@@ -118,7 +119,7 @@ notice_no_answer s from m q number e =
     let is : meaning s from m ≡ meaning_taken s (Some q) = at_true (is_taken s from m) (meaning_taken s (notified s from m)) (meaning_else s from m m.kind) taken ∙ ap (meaning_taken s) number in
     newer_or_old (is_newer (latest_of s.observation) s.moment q) q (sym is ∙ e)
 
--- what is taken and not for the observation is for the request
+-- a message that is taken and not for the observation is for the request
 pub for_request_else : (s : State) (from : Endpoint) (m : CoapMessage) → is_taken s from m ≡ true → is_for_observation s.observation from m.token ≡ false → is_for_request s.outstanding from m.token ≡ true
 for_request_else s from m taken none = one_of (is_for_request s.outstanding from m.token) (is_for_observation s.observation from m.token) (both _ _ taken).1 none
   where
@@ -132,7 +133,7 @@ request_token o from token e = (bytes_eq-Decides token o.token).0 (both _ _ e).1
 pub observation_token : (x : Observation) (from : Endpoint) (token : List ℕ) → is_for_observation (Some x) from token ≡ true → token ≡ x.token
 observation_token x from token e = (bytes_eq-Decides token x.token).0 (both _ _ e).1
 
--- what is for a request that is observed is for the observation
+-- a message for a request that is observed is for the observation
 pub for_both : (s : State) (o : Outstanding) (from : Endpoint) (token : List ℕ) → IsObservedAs s o → is_for_request (Some o) from token ≡ true → is_for_observation s.observation from token ≡ true
 for_both s o from token x e =
     let same : is_for_observation (Some x.observation) from token ≡ is_for_request (Some o) from token
@@ -144,7 +145,7 @@ at_front [] ys k h = absurd (omega arith)
 at_front (x ∷ xs) ys zero h = refl
 at_front (x ∷ xs) ys (suc k) h = at_front xs ys k (omega arith)
 
--- a registration with the token of what is outstanding is that, or the observation has that token
+-- a registration with the token of the outstanding request is that one, or the observation has that token
 pub latest_or_observed : (asks : List Outstanding) (s : State) (o : Outstanding) (k : ℕ) (request : Outstanding) → ClientDid asks s → length asks ≤ 65536 → s.outstanding ≡ Some o
     → slice_get asks k ≡ Some request → request.registers ≡ true → request.token ≡ o.token
     → ((k ≡ length asks - 1) × (o.registers ≡ true)) ⊎ (IsObservedAs s o × (o.registers ≡ false))
@@ -167,7 +168,7 @@ latest_or_observed asks s o k request did few is at registers_it same =
       ]
     ]
 
--- what ended by a value was a registration
+-- a request that a value ended was a registration
 pub ended_registration : (x : Option Outstanding) (o : Outstanding) → x ≡ Some o → cond (registers x) None x ≡ None → o.registers ≡ true
 ended_registration x o is e = at_some o o.registers refl (subst (λ (y : Option Outstanding). cond (registers y) None y ≡ None) is e)
   where

@@ -1,4 +1,4 @@
--- What a notification is for: the ask that registered with its token.
+-- A notification is for the ask that registered with its token.
 use Rattle.std.proofs.Common.{◌≡◌, ℕ, ◌+◌, ◌≤◌, ◌∙◌, ◌&&◌, Bool, true, false, cond, Option, Some, List, [], ◌∷◌, length, zero, suc, inl, inr, refl, sym, ap, subst, arith}
 use Rattle.std.specs.Prelude.{slice_get}
 use Rattle.std.specs.Str.{bytes_eq}
@@ -55,7 +55,7 @@ registration_found k token (x ∷ asks) j a at reg same = elim (cases_Bool (x.re
   | inr not_here ↦ found_at k token x asks j a at reg same not_here (λ i is. registration_found (k + 1) token asks i a is reg same)
 ]
 
--- what a notification to the client is: of an ask that registered
+-- a notification to the client is of an ask that registered
 pub record IsOfAsk (w : WorldState) (n : Notice) (registered_is : IsRegistered w.asks w.acts (record { from = n.to; token = token_of n; target = n.target })) : Type 0 where
   pub purpose : purpose_of n w.asks w.emitted ≡ notice_for registered_is.place n.sequence (last_place n.target (targets_of w.emitted))
 

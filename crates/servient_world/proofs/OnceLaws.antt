@@ -1,4 +1,4 @@
--- Each move keeps what `Holds` says, so an ask is acted on at most once.
+-- Each move keeps `Holds`, so an ask is acted on at most once.
 use Rattle.std.proofs.Common.{◌≡◌, ◌≢◌, ℕ, ◌+◌, ◌-◌, ◌≤◌, ◌∙◌, Bool, true, false, cond, Option, Some, None, List, [], ◌∷◌, ◌++◌, map, take, length, refl, sym, ap, subst, arith}
 use Rattle.std.specs.Prelude.{All, AllPairs, Contains, slice_get, option_map}
 use Rattle.std.specs.Option.{option_to_list}
@@ -29,7 +29,7 @@ use Rattle.servient_world.proofs.Places.{all_at, at_last, at_end}
 use Rattle.servient_world.proofs.AskLaws.{HasMessage, asks_are_asks}
 use Rattle.servient_world.proofs.Holds.{Holds, IsSentFor, IsActed, sent_for_more, admitted_more, back, Served, serves, came_soon}
 
--- ---- what is sent
+-- ---- datagrams
 
 -- these were sent now
 past_sent : (w : WorldState) (from to : Endpoint) (p : Purpose) (said : List (List ℕ)) → All (λ d. d.moment ≤ w.moment) w.sent
@@ -39,7 +39,7 @@ past_sent w from to p said all =
     All-append (λ (d : Datagram). d.moment ≤ w.moment) w.sent (map one said) all
     (All-map (λ (d : Datagram). d.moment ≤ w.moment) one said (λ k d within. omega arith))
 
--- and are what they were sent for
+-- and are as their purposes say
 purposes_sent : (w : WorldState) (from to : Endpoint) (p : Purpose) (said : List (List ℕ)) → All (λ d. IsSentFor w.asks d d.purpose) w.sent
     → ((d : Datagram) → IsSentFor w.asks d p) → All (λ d. IsSentFor w.asks d d.purpose) (with_sent w from to p said).sent
 purposes_sent w from to p said all each =

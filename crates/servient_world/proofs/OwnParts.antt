@@ -1,5 +1,5 @@
--- The blocks of requests that are kept until all have come: those of one origin are apart from those of any other, and what a block
--- of an origin does to them.
+-- The blocks of requests that are kept until all have come: those of one origin are apart from those of any other, and
+-- a block of an origin has its effect on its own.
 use Rattle.std.proofs.Common.{◌≡◌, ◌≢◌, ℕ, zero, suc, ◌+◌, ◌<◌, ◌∙◌, ◌&&◌, Bool, true, false, cond, not, Option, Some, None, List, [], ◌∷◌, ◌++◌, set, remove, length, get_or, refl, sym, ap, subst, arith}
 use Rattle.std.specs.Prelude.{◌==◌, nat_lt, slice_get, if◌then◌else◌}
 use Rattle.std.specs.List.{filter}
@@ -166,7 +166,7 @@ there_set [] i y within = absurd (omega arith)
 there_set (p ∷ ps) zero y within = refl
 there_set (p ∷ ps) (suc i) y within = there_set ps i y (omega arith)
 
--- ---- what a block does
+-- ---- the effect of a block
 
 -- a part of an origin was this one before its bytes grew
 pub record Grown (Own : Part → Type 0) (o : Origin) (payload : List ℕ) (p : Part) : Type 0 where
@@ -181,7 +181,7 @@ pub record LeftOver (Others : Part → Type 0) (o : Origin) (ps : List Part) : T
   pub none : NoneOf o ps
   pub others : Each Others ps
 
--- the last block of a body completes what is at a place
+-- the last block of a body completes the part at a place
 pub record Whole (Others Own : Part → Type 0) (o : Origin) (payload : List ℕ) (i : ℕ) (ps : List Part) : Type 0 where
   pub part : Part
   pub there : slice_get ps i ≡ Some part
@@ -215,7 +215,7 @@ left_over Others Own o ps i within own apart h =
       others = each_both (λ (x : Part). x.origin ≢ o) (Either Others Own o) Others (remove ps i) (λ x not_o is. is.0 not_o) none (each_removed (Either Others Own o) ps i within h);
     }
 
--- what is answered, by the tests
+-- the answer, by the tests
 abbrev to_at : ℕ → List ℕ → Part → List Part → Bool → Bool → Bool → Added × List Part
 to_at i payload own ps apart_it long more =
     if apart_it then (answer.Incomplete, remove ps i) else if long then (answer.TooLarge, remove ps i) else ((if more then answer.Continue else answer.Complete i), set ps i (extended payload own))
@@ -272,7 +272,7 @@ joined_outcome Others Own o b payload ps apart h = by_place (place_of o ps) refl
         let at = position-Some (is_part_of o) ps i any_part e in
         joined_to_outcome Others Own o b payload i (part_at i ps) ps at.0 refl (own_origin o (part_at i ps) at.1) apart h
 
--- the part of an origin that a block is joined to: empty, where it is the first, and else what it was
+-- the part of an origin that a block is joined to: empty, where it is the first, and else as it was
 abbrev pub Before : (Part → Type 0) → ℕ → Part → Type 0
 Before P number p = (number ≡ 0 → p.bytes ≡ []) × (number ≢ 0 → P p)
 

@@ -1,4 +1,4 @@
--- An ask of a row that reads, the entry of what it led to, and what stands between the first of them and a later one.
+-- An ask of a row that reads, its entry, and the entries between the first of them and a later one.
 use Rattle.std.proofs.Common.{◌≡◌, ◌≢◌, ℕ, zero, suc, ◌+◌, ◌<◌, ◌≤◌, ◌∙◌, ◌&&◌, Bool, true, false, Option, Some, None, List, take, length, option_map, inl, inr, refl, sym, ap, subst, arith}
 use Rattle.std.specs.Prelude.{◌==◌, Contains, slice_get, IfSome, if◌then◌else◌}
 use Rattle.std.proofs.lemmas.Bool.Decides.{nat_tests}
@@ -79,7 +79,7 @@ read_entry v x path szx n z asks_it has code_is =
       two_five = sym f.code_is ∙ code_is;
     }
 
--- what it wants
+-- its wish
 wants_get : (code : ℕ) (a : PlainAsk) → code ≡ GET → a.observe ≡ None → wanted_of code (observing_of code a.observe) a ≡ wanted_by_get a.block2
 wants_get code a get none =
     ap (λ (c : ℕ). wanted_of c (observing_of c a.observe) a) get ∙ ap (λ (o : Option ℕ). wanted_of GET (observing_of GET o) a) none
@@ -115,7 +115,7 @@ later_wants v x path szx n z later r =
 
 -- ---- the first ask
 
--- what the first reads, and what it leaves for the others
+-- the reading of the first, and the body that it leaves for the others
 pub record FirstRead (v : WorldState) (x : Exact v) (path : List (List ℕ)) (szx : ℕ) (z : RowAsk) (place : ℕ) : Type 0 where
   pub text : List ℕ
   pub first : FirstOf szx text z.payload z.block
@@ -193,9 +193,9 @@ first_read v x path szx z r = by_reason r.is.leads
           );
         }
 
--- ---- what stands between the first and a later one
+-- ---- entries between the first and a later one
 
--- what isn't an act for the path gives nothing for it
+-- an entry that isn't an act for the path gives nothing for it
 pub quiet : (path : List (List ℕ)) (l : Led) (before : Option Content) → ((a : Acted) → l ≡ to_act a → a.what.request.path ≡ path → ⊥) → given_by path l before ≡ before
 quiet path to_refusal before none = refl
 quiet path to_no_memory before none = refl

@@ -1,4 +1,4 @@
--- What a row of asks for the blocks of one body reads is of one act, or of the links (RFC 7959, section 2.4).
+-- A row of asks for the blocks of one body reads the outcome of one act, or the links (RFC 7959, section 2.4).
 use Rattle.std.proofs.Common.{◌≡◌, ◌≢◌, ℕ, suc, ◌+◌, ◌-◌, ◌*◌, ◌^◌, ◌<◌, ◌≤◌, ◌∙◌, true, false, Option, Some, List, [], ◌∷◌, take, drop, length, inl, inr, refl, sym, ap, subst, arith}
 use Rattle.std.specs.Prelude.{Contains, nat_lt}
 use Rattle.std.proofs.lemmas.Bool.{cases_Bool}
@@ -25,7 +25,7 @@ use Rattle.servient_world.proofs.ReadEntries.{ReadEntry, read_entry, later_wants
 
 -- ---- a later ask
 
--- what a later one reads: a block of the body that the entries before gave, or of the links
+-- the reading of a later one: a block of the body that the entries before gave, or of the links
 record LaterRead (v : WorldState) (x : Exact v) (path : List (List ℕ)) (szx n : ℕ) (z : RowAsk) (place : ℕ) : Type 0 where
   content : Content
   of_links : is_links_path path ≡ true → content ≡ links_content v.server.links
@@ -95,14 +95,14 @@ reads_well v path szx n (z ∷ row) k are has = elim (one_of z row k has) [
   | inr rest ↦ reads_well v path szx (n + 1) row k are.4 rest
 ]
 
--- the whole row, and what its first reads
+-- the whole row, and the reading of its first
 record ReadRow (v : WorldState) (x : Exact v) (path : List (List ℕ)) (szx : ℕ) (first : RowAsk) (row : List RowAsk) : Type 0 where
   row_is : Row v (IsOfPath path) first row
   entry : ReadEntry v x path szx 0 first
   read : FirstRead v x path szx first entry.for_it.place
   others : AreReads v.asks v.ends path szx 1 row
 
--- what is given before a later ask is what the first left
+-- the body that is given before a later ask is the one that the first left
 still_given : (v : WorldState) (x : Exact v) (path : List (List ℕ)) (szx n : ℕ) (first : RowAsk) (row : List RowAsk) (z : RowAsk) → (w : ReadRow v x path szx first row) → (r : ReadEntry v x path szx n z)
     → first.ask < z.ask → z.ask ≤ (last_of first row).ask → EndsWell v.ends z.ask → given_to path (take r.for_it.place x.led) ≡ given_to path (take (suc w.entry.for_it.place) x.led)
 still_given v x path szx n first row z w r less to_last well =

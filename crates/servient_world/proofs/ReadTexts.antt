@@ -1,5 +1,5 @@
--- What the reply to a block-wise GET has of its text: the first block, by an act or of the links, and each later one, of a body that
--- is kept (RFC 7959, section 2.4).
+-- The part of a text that the reply to a block-wise GET has: the first block, by an act or of the links, and each later
+-- one, of a body that is kept (RFC 7959, section 2.4).
 use Rattle.std.proofs.Common.{◌≡◌, ℕ, ◌+◌, ◌*◌, ◌<◌, ◌≤◌, ◌∙◌, ◌&&◌, ◌||◌, Bool, true, false, Option, Some, None, List, [], ◌∷◌, ◌++◌, take, drop, length, refl, sym, ap, append-nil, append_assoc, length-drop, arith}
 use Rattle.std.proofs.Math.ListN.{drop_of_length-le}
 use Rattle.std.proofs.Math.Nat.{add-mul}
@@ -27,8 +27,8 @@ use Rattle.servient_world.proofs.Holds.{both_true}
 abbrev pub size_of : ℕ → ℕ
 size_of z = block_size (first_block (Some z))
 
--- What the first reply has of a text, and which block it says: all of it, and that no more follows; or the first block, and whether
--- more follows, where the text is then kept.
+-- The part of a text that the first reply has, and the block that it says: all of it, and that no more follows; or the
+-- first block, and whether more follows, where the text is then kept.
 pub data FirstOf (z : ℕ) (text payload : List ℕ) (block : Option Block) : Type 0 where
   all_of_it : payload ≡ text → says_more block ≡ false → FirstOf z text payload block
   first_of_it : payload ≡ take (size_of z) text → says_more block ≡ nat_lt (size_of z) (length text) → FirstOf z text payload block
@@ -81,7 +81,7 @@ kept_by z text payload block (first_of_it same says) fits more =
     not_longer : (n : ℕ) → nat_lt longest_body n ≡ false → nat_le n longest_body ≡ true
     not_longer n e = grind (arith, nat_tests)
 
--- what an act came to for a GET: the first block of its payload, which is kept where more follows
+-- the outcome of an act for a GET: the first block of its payload, which is kept where more follows
 pub record ActFirst (z : ℕ) (o : Outcome) (payload : List ℕ) (block : Option Block) : Type 0 where
   pub first : FirstOf z (payload_of o) payload block
   pub kept : says_more block ≡ true → is_kept (Some z) o ≡ true
@@ -191,7 +191,7 @@ AreBlocksOf z text n (y ∷ row) = IsBlockOf z n text y × IsFollowed y row × A
 no_more : (m n : ℕ) → nat_lt m n ≡ false → n ≤ m
 no_more m n e = grind (arith, nat_tests)
 
--- what is left behind a block, where none follows
+-- the rest behind a block, where none follows
 nothing_left : (size start : ℕ) (text : List ℕ) → length text ≤ start + size → drop size (drop start text) ≡ []
 nothing_left size start text short = drop_of_length-le (drop start text) (omega (arith, length-drop start text))
 

@@ -1,4 +1,4 @@
--- What replies and notifications say of Observe (RFC 7641, section 2).
+-- The value of Observe in replies and notifications (RFC 7641, section 2).
 use Rattle.std.proofs.Common.{◌≡◌, ℕ, ◌<◌, ◌≤◌, ◌^◌, ◌∙◌, Bool, true, false, cond, Option, Some, None, List, [], ◌∷◌, ◌++◌, length, inr, refl, ap, arith}
 use Rattle.std.specs.Prelude.{nat_lt, nat_le}
 use Rattle.std.specs.Option.{option_map_or}

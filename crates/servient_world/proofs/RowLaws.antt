@@ -124,7 +124,7 @@ rising_at v x j k a b up at_j at_k = elim (cases_lt j k) [
 
 -- ---- between two asks of a row
 
--- what is said of all asks of a row
+-- facts on all asks of a row
 pub record Row (v : WorldState) (IsSuch : CoapMessage → Type 0) (first : RowAsk) (row : List RowAsk) : Type 0 where
   pub request : Outstanding
   pub ask : slice_get v.asks first.ask ≡ Some request

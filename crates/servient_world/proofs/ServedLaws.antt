@@ -1,4 +1,4 @@
--- What is told of the asks and of what was sent stays so while the server takes something.
+-- The facts on asks and on datagrams stay so while the server takes a datagram.
 use Rattle.std.proofs.Common.{◌≡◌, ◌≢◌, ℕ, ◌+◌, ◌-◌, ◌<◌, ◌≤◌, ◌^◌, ◌∙◌, Bool, true, false, Option, Some, None, List, [], ◌∷◌, ◌++◌, length, get_or, inl, inr, refl, sym, ap, subst, arith}
 use Rattle.std.specs.Prelude.{All, AllPairs, find, if◌then◌else◌}
 use Rattle.std.proofs.lemmas.Bool.{cases_Bool}
@@ -69,7 +69,7 @@ exact_silent w t more n to q back none same nothing x =
     (ap (λ (z : Server). z.links) same) (subst (λ (z : Server). All (IsKept w.asks x.led) z.exchanges.exchanges) (sym same) x.kept)
     (All-same (λ (bytes : List ℕ). IsSaid w.asks w.acts x.led (record { moment = w.moment; from = server_place; to = to; bytes = bytes; purpose = q }) q) back [] nothing (All-nil (λ (bytes : List ℕ). _)))
 
--- what holds of the server afterwards, where nothing is admitted for an ask
+-- facts on the server afterwards, where nothing is admitted for an ask
 record Over (w : WorldState) (led : List Entry) (t : Server) : Type 0 where
   ledger : Ledger led w.asks w.acts t w.moment
   given : Given led t
@@ -101,7 +101,7 @@ over_elsewhere w x from bytes act back t away treats = elim (all_are_led from by
       }
 ]
 
--- what an entry comes of is what those before left
+-- an entry comes of the bodies that those before left
 fed_for : (led : List Entry) (now : ℕ) (m : CoapMessage) (l : Led) (s t : Server) → Leaves client_place now m l s t → Given led s → Joins led s → IsFed s.links led l
 fed_for led now m to_refusal s t leaves g j = tt
 fed_for led now m to_no_memory s t leaves g j = tt
@@ -281,7 +281,7 @@ said_notice capacity w led n h few known low spells = elim (cases_Bool (is_same_
       (not_place n.to client_place elsewhere_is, inl known.0)
 ]
 
--- what a server that sends what is due leaves
+-- the bodies and the parts of a server that sends a notification
 sent_leaves : (n : Option Notice) (s : Server) → ((with_notice_sent n s).bodies ≡ s.bodies) × ((with_notice_sent n s).parts ≡ s.parts) × ((with_notice_sent n s).links ≡ s.links)
 sent_leaves None s = (refl, refl, refl)
 sent_leaves (Some n) s = at n.fresh

@@ -166,7 +166,7 @@ plain_back (reply_to k) acts emitted d = tt
 plain_back (notice_for k q e) acts emitted d = tt
 plain_back other acts emitted d = tt
 
--- ---- what is taken
+-- ---- values that are taken
 
 read_of : (asks : List Outstanding) (acts : List Act) (links : List ℕ) (led : List Entry) (k : ℕ) (r : Reply) (payload : List ℕ) → All (IsEntry asks acts links) led → IsWhy led k r
     → (sequence_of (reply_options r) ≡ None → ⊥) → payload ≡ r.payload → WasRead acts (record { ask = k; place = 0; payload = payload })

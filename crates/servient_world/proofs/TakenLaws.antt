@@ -52,7 +52,7 @@ use Rattle.servient_world.proofs.NoticeLaws.{purpose_is, not_client_purpose}
 use Rattle.servient_world.proofs.EndLaws.{grows_by, all_grow, Stands, stands_after, stands_at_start}
 use Rattle.servient_world.proofs.ValueLaws.{Valued, MayFollow, MayComeAfter, HasNumber, IsAfter, is_read, is_notice, Tops, IsNoLater, valued_sent, valued_client, valued_asked, valued_value, IsTaken, value_says, notified_says, observed_some, notice_last, tops_more}
 
--- ---- what isn't a value leaves the observation, or ends it
+-- ---- a message that is no value leaves the observation, or ends it
 
 seen_back : (s : State) (from : Endpoint) (token : List ℕ) (m : Meaning) (o : Observation) → ((q : ℕ) → m ≡ meant.Value q → ⊥) → (after s from token m).observation ≡ Some o → s.observation ≡ Some o
 seen_back s from token (meant.Value q) o no_value e = absurd (no_value q refl)
@@ -115,7 +115,7 @@ taken_reply capacity w d k q m t h few v led sent spells e after_is =
       newest = is_read number.0 refl;
     }
 
--- ---- a notice brings a value
+-- ---- a notification brings a value
 
 taken_notice : (capacity : ℕ) (w : WorldState) (i : ℕ) (d : Datagram) (k q0 emission q : ℕ) (m : CoapMessage) (t : State) → Holds capacity w → length w.asks ≤ 65536 → Valued w → IsNotice w.asks w.acts k q0 d
     → slice_get w.sent i ≡ Some d → d.purpose ≡ notice_for k q0 emission → w.moment - d.moment ≤ MAX_LATENCY
@@ -156,7 +156,7 @@ nothing_taken : (w : WorldState) (t : State) (ends : List AskEnd) → ((o : Obse
     → Valued (record w { client = t; ends = ends; taken = w.taken ++ [] })
 nothing_taken w t ends back v = valued_client w (record w { client = t; ends = ends; taken = w.taken ++ [] }) refl refl (append-nil w.taken) back v
 
--- by what is told
+-- by the news
 taken_news : (w : WorldState) (t : State) (ends : List AskEnd) (p : Purpose) (mm : Meaning) (m : CoapMessage) (n : News) → IsNews mm m n
     → (((q : ℕ) → mm ≡ meant.Value q → ⊥) → (o : Observation) → t.observation ≡ Some o → w.client.observation ≡ Some o)
     → ((q : ℕ) (payload : List ℕ) → mm ≡ meant.Value q → Valued (record w { client = t; ends = ends; taken = w.taken ++ value_by p payload })) → Valued w
@@ -168,7 +168,7 @@ taken_news w t ends p mm m news.Reset is back each v = nothing_taken w t ends (b
 taken_news w t ends p mm m news.Nothing (inl is) back each v = nothing_taken w t ends (back (λ q e. let wrong : meant.Received ≡ meant.Value q = sym is ∙ e in cc)) v
 taken_news w t ends p mm m news.Nothing (inr is) back each v = nothing_taken w t ends (back (λ q e. let wrong : meant.Foreign ≡ meant.Value q = sym is ∙ e in cc)) v
 
--- what it is that comes
+-- the kinds of datagrams that come
 pub data IsFor (w : WorldState) (led : List Entry) (i : ℕ) (d : Datagram) (p : Purpose) : Type 0 where
   back_on : (k : ℕ) → p ≡ reply_to k → IsSentBack w.asks led k d → IsFor w led i d p
   notice_of : (k q e : ℕ) → p ≡ notice_for k q e → IsNotice w.asks w.acts k q d → IsFor w led i d p

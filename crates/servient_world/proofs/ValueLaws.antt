@@ -1,4 +1,4 @@
--- Values never go back: the invariant, and what a taken value and a sent notification keep of it.
+-- Values never go back: the invariant, and its parts that a taken value and a sent notification keep.
 use Rattle.std.proofs.Common.{◌≡◌, ◌≢◌, ◌⊎◌, ℕ, ◌-◌, ◌/◌, ◌^◌, ◌<◌, ◌≤◌, ◌∙◌, ◌&&◌, Bool, true, false, cond, Option, Some, None, List, [], ◌∷◌, ◌++◌, map, length, get_or, zero, suc, inl, inr, refl, sym, ap, subst, arith, append_assoc}
 use Rattle.std.specs.Prelude.{◌==◌, All, AllPairs, Contains, slice_get}
 use Rattle.std.proofs.lemmas.Bool.{cases_lt}
@@ -35,7 +35,7 @@ MayFollow k q e (copy_of j) = Unit {0}
 MayFollow k q e (reply_to j) = Unit {0}
 MayFollow k q e other = Unit {0}
 
--- what was sent later than what
+-- the purposes of which one may come after another
 abbrev pub MayComeAfter : Purpose → Purpose → Type 0
 MayComeAfter p (notice_for k q e) = MayFollow k q e p
 MayComeAfter p (copy_of k) = Unit {0}
@@ -52,7 +52,7 @@ HasNumber (copy_of k) = Unit {0}
 HasNumber (reply_to k) = Unit {0}
 HasNumber other = Unit {0}
 
--- the latest value of an ask is the one that was read, or a notice's
+-- the latest value of an ask is the one that was read, or a notification's
 pub data IsLatest (sent : List Datagram) (k : ℕ) (l : Latest) (top : ℕ) : Type 0 where
   is_read : l.sequence ≡ 0 → top ≡ 0 → IsLatest sent k l top
   is_notice : (d : Datagram) → Contains sent d → d.purpose ≡ notice_for k l.sequence top → d.moment ≤ l.moment → IsLatest sent k l top
@@ -83,7 +83,7 @@ pub tops_more : (sent more : List Datagram) (taken : List Value) (k : ℕ) (x : 
 tops_more sent more taken k None t = t
 tops_more sent more taken k (Some l) t = (t.0, latest_more sent more k l t.0 t.1, t.2)
 
--- what was sent now, and is no notice
+-- a datagram that was sent now, and is no notification
 record IsPlain (now : ℕ) (d : Datagram) : Type 0 where
   at : d.moment ≡ now
   plain : (p : Purpose) → MayComeAfter p d.purpose
@@ -179,7 +179,7 @@ valued_asked w t r did few seen v =
       rising = v.rising;
     }
 
--- ---- what a value says
+-- ---- the place of a value
 
 abbrev number_in : Meaning → ℕ
 number_in (meant.Value q) = q
@@ -251,7 +251,7 @@ valued_value capacity w t ends q k place payload h few it v =
       rising = all_pairs_push IsNoLater w.taken value v.rising (λ i d inside e. All-get_or (λ (x : Value). x.ask ≡ k → x.place ≤ place) w.taken i d inside it.no_later e);
     }
 
--- ---- a notice isn't before what was taken
+-- ---- a notification isn't before the values that were taken
 
 abbrev sequence_in : Purpose → ℕ
 sequence_in (notice_for k q e) = q
@@ -268,7 +268,7 @@ emission_in other = 0
 not_smaller : (l : Latest) (now sequence : ℕ) → is_newer_than l now sequence ≡ true → l.sequence < 2 ^ 23 → sequence < l.sequence → now - l.moment ≤ 128000 → ⊥
 not_smaller l now sequence newer small below soon = grind (arith, nat_tests)
 
--- of two notices of one ask, at their places
+-- of two notifications of one ask, at their places
 ordered : (sent : List Datagram) (i j : ℕ) (d c : Datagram) (k q e p f : ℕ) → AllPairs IsAfter sent → i < j → j < length sent → get_or sent i d ≡ d → get_or sent j d ≡ c → d.purpose ≡ notice_for k q e → c.purpose ≡ notice_for k p f
     → (d.moment ≤ c.moment) × (((q ≡ p) × (e ≡ f)) ⊎ ((q < p) × (e ≤ f)))
 ordered sent i j d c k q e p f order before within at_i at_j is_d is_c =

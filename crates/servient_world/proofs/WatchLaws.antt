@@ -1,5 +1,5 @@
--- What was done to the server's watchers, as the world knows it: who registered with the client's endpoint is an ask for which an
--- act was made, no token registered twice, and each notification to the client is noted.
+-- The history of the server's observers, as the world knows it: a registration with the client's endpoint is by an ask
+-- for which an act was made, no token registered twice, and each notification to the client is noted.
 use Rattle.std.proofs.Common.{◌≡◌, ◌≢◌, ◌⊎◌, ℕ, ◌<◌, ◌≤◌, ◌^◌, ◌∙◌, ◌&&◌, Bool, true, false, cond, Option, Some, None, List, [], ◌∷◌, ◌++◌, length, get_or, inl, inr, refl, sym, ap, subst, arith}
 use Rattle.std.specs.Prelude.{◌==◌, All, AllPairs, Contains, slice_get}
 use Rattle.std.specs.Str.{bytes_eq}
@@ -135,7 +135,7 @@ all_noted_more asks other_asks account ds all =
     All-weaker (λ (d : Datagram). IsNoted asks account d.purpose) (λ (d : Datagram). IsNoted (asks ++ other_asks) account d.purpose)
     (λ d is. noted_more asks other_asks account d.purpose is) ds all
 
--- what was sent before is in the account still
+-- a notification that was sent before is in the account still
 noted_account : (asks : List Outstanding) (a b : Account) (p : Purpose) → ((s : SentNotice) → Contains a.sent s → Contains b.sent s) → IsNoted asks a p → IsNoted asks b p
 noted_account asks a b (notice_for k q e) more x = record {
   request = x.request;
@@ -213,7 +213,7 @@ none_registered capacity watchers w k request made h few x at reg for_it differ 
       | inr none ↦ omega arith
     ]
 
--- ---- what a request does to the watchers
+-- ---- the effect of a request on the observers
 
 abbrev target_in : Effect → Option ℕ
 target_in effect.Nothing = None
@@ -298,7 +298,7 @@ account_told watchers from bytes a s t (inl same) did = subst (AccountDid watche
 account_told watchers from bytes a s t (inr told) did =
     subst (AccountDid watchers a) (sym told.2) (told_at watchers from a s told.0.kind told.0.id (told.0.code == EMPTY) did)
 
--- what came of a registration
+-- the account after a registration
 account_registered : (watchers : ℕ) (from : Endpoint) (bytes : List ℕ) (act : Option Acted) (a : Account) (s t : Watching) (token : List ℕ) (target : ℕ) (o : Registered) → length token ≤ 8
     → Registers from token target s o t → IsByRequest bytes act (record { from = from; token = token; target = target }) → AccountDid watchers a s → GoesOn watchers from bytes act a t
 account_registered watchers from bytes act a s t token target (New n) short reg by did =

@@ -1,4 +1,4 @@
--- Each move keeps what is known of the watchers.
+-- Each move keeps the facts on the observers.
 use Rattle.std.proofs.Common.{◌≡◌, ◌≢◌, ℕ, ◌+◌, ◌<◌, ◌≤◌, ◌^◌, ◌∙◌, ◌&&◌, Bool, true, false, cond, Option, Some, None, List, [], ◌∷◌, ◌++◌, map, take, length, inl, inr, refl, sym, ap, subst, arith}
 use Rattle.std.specs.Prelude.{All, AllPairs, Contains, slice_get, option_map}
 use Rattle.std.specs.Option.{option_to_list}
@@ -37,7 +37,7 @@ use Rattle.servient_world.proofs.NoticeLaws.{purpose_is, not_client_purpose}
 use Rattle.servient_world.proofs.AnsweredLaws.{no_end_place}
 use Rattle.servient_world.proofs.CounterLaws.{counter_receives, counter_sends}
 
--- ---- what is sent beside notifications
+-- ---- datagrams beside notifications
 
 watched_sent : (watchers : ℕ) (w : WorldState) (from to : Endpoint) (p : Purpose) (said : List (List ℕ)) → ((a : Account) → IsNoted w.asks a p) → Watched watchers w → Watched watchers (with_sent w from to p said)
 watched_sent watchers w from to p said plain y = record {
@@ -156,7 +156,7 @@ first_of_copy capacity watchers w d k act copy h few y once r from by =
       first = λ is_client. ap (λ (t : List ℕ). registrations_of client_place t y.account.registered) (sym token) ∙ none;
     }
 
--- what isn't the client's is of no ask
+-- a registration that isn't the client's is of no ask
 first_elsewhere : (asks : List Outstanding) (acts : List Act) (account : Account) (from : Endpoint) (r : Registration) → (from ≡ client_place → ⊥) → (from ≡ server_place → ⊥) → r.from ≡ from → IsFirst asks acts account r
 first_elsewhere asks acts account from r not_client not_server is = record {
   known = ((λ e. not_server (sym is ∙ e)), λ e. absurd (not_client (sym is ∙ e)));
@@ -176,7 +176,7 @@ empty_registers_none watchers w d act back t y empty (is_ignored m slot spells r
 up_by : (a b : ℕ) → a ≤ a + b
 up_by a b = omega arith
 
--- nothing was done to the watchers
+-- nothing was done to the observers
 same_watched : (watchers : ℕ) (w : WorldState) (more : List Act) (t : Server) (n : ℕ) → Watched watchers w → t ≡ w.server → w.ids ≤ n → Watched watchers (record w { server = t; acts = w.acts ++ more; ids = n })
 same_watched watchers w more t n y same up = record {
   account = y.account;
@@ -189,7 +189,7 @@ same_watched watchers w more t n y same up = record {
   id = let at = ap (λ (z : Server). z.next_id) same in let before = y.id in omega arith;
 }
 
--- what comes to the server, by what it was sent for
+-- a datagram that comes to the server, by its purpose
 first_by_purpose : (capacity watchers : ℕ) (d : Datagram) (w : WorldState) (p : Purpose) (act : Option Acted) (back : List (List ℕ)) (t : Server) → Holds capacity w → length w.asks ≤ 65536
     → (y : Watched watchers w) → (led : List Entry) → IsSentFor w.asks d p → IsSaid w.asks w.acts led d p → d.to ≡ server_place → AllPairs (λ x z. x.ask ≢ z.ask) (w.acts ++ acts_for p act)
     → IsTreated d.from d.bytes w.moment act back w.server t

@@ -1,4 +1,4 @@
--- An ask of a row that writes, and the entry of what it led to: a block that was joined, or, for the last, an act on all of them.
+-- An ask of a row that writes, and its entry: a block that was joined, or, for the last, an act on all of them.
 use Rattle.std.proofs.Common.{◌≡◌, ◌≢◌, ℕ, ◌/◌, ◌∙◌, Bool, true, false, Some, List, length, inl, inr, refl, sym, ap, subst, arith}
 use Rattle.std.specs.Prelude.{nat_lt, if◌then◌else◌}
 use Rattle.std.proofs.lemmas.Option.{same_Some}
@@ -30,7 +30,7 @@ use Rattle.servient_world.proofs.RowLaws.{EntryFor, entry_for, entry_at}
 
 -- ---- an ask of the row and its entry
 
--- whose blocks these are
+-- the origin of these blocks
 abbrev pub origin_at : ℕ → List (List ℕ) → Origin
 origin_at code path = record { from = client_place; code = code; path = path }
 

@@ -1,4 +1,4 @@
--- What a row of asks with the blocks of one body writes is acted on once, whole (RFC 7959, section 2.5).
+-- A body that a row of asks writes in blocks is acted on once, whole (RFC 7959, section 2.5).
 use Rattle.std.proofs.Common.{◌≡◌, ◌≢◌, ◌⊎◌, ℕ, zero, suc, ◌+◌, ◌-◌, ◌/◌, ◌<◌, ◌≤◌, ◌∙◌, Bool, true, false, Option, Some, None, List, [], ◌∷◌, ◌++◌, take, length, inl, inr, refl, sym, ap, subst, append_assoc, append-nil, arith}
 use Rattle.std.specs.Prelude.{◌==◌, Contains, slice_get, unwrap_or, if◌then◌else◌}
 use Rattle.std.proofs.lemmas.Bool.Decides.{nat_tests}
@@ -23,9 +23,9 @@ use Rattle.servient_world.proofs.EndLaws.{stands_at_start, stands_after_all}
 use Rattle.servient_world.proofs.RowLaws.{plus_none, plus_next, EndsWell, ended_well, one_place, in_order, Row, between, RisesFrom, rises, up_to_last, one_of, none_of}
 use Rattle.servient_world.proofs.WriteEntries.{origin_at, WriteEntry, write_entry, IsBlockAt, Continued, continued, Finished, finished}
 
--- ---- what stands between two of the row
+-- ---- entries between two of the row
 
--- what joins no block of an origin leaves what was joined of it
+-- an entry that joins no block of an origin leaves the blocks that were joined of it
 quiet : (o : Origin) (l : Led) (before : Option (List ℕ)) → ((a : BlockArrival) (added : Added) → l ≡ to_parts a added → a.origin ≡ o → ⊥) → part_by o l before ≡ before
 quiet o to_refusal before none = refl
 quiet o to_no_memory before none = refl
@@ -100,7 +100,7 @@ later_than k (z ∷ row) j up has = elim (one_of z row j has) [
   | inr rest ↦ (let more = later_than z.ask row j up.1 rest in let less = up.0 in omega arith)
 ]
 
--- what is joined before the next ask of a row is what was joined by the one before it
+-- the bytes that are joined before the next ask of a row are those up to the one before it
 still_joined : (v : WorldState) (x : Exact v) (code : ℕ) (path : List (List ℕ)) (n m : ℕ) (first : RowAsk) (row : List RowAsk) (z w : RowAsk) (left : List RowAsk) → WriteRow v x code path first row
     → (a : WriteEntry v x code path n z) → (b : WriteEntry v x code path m w) → z.ask < w.ask → first.ask ≤ z.ask → w.ask ≤ (last_of first row).ask → EndsWell v.ends z.ask → EndsWell v.ends w.ask
     → AreUpTo first row z.ask (w ∷ left) → RisesFrom w.ask left
@@ -125,7 +125,7 @@ still_joined v x code path n m first row z w left whole a b less from to_last we
       ]
     ]))
 
--- what a block of the row has joined
+-- the bytes that a block of the row has joined
 joined_by : (v : WorldState) (x : Exact v) (code : ℕ) (path : List (List ℕ)) (n : ℕ) (z : RowAsk) (bytes : List ℕ) → (r : WriteEntry v x code path n z) → (c : Continued code path n z r.for_it.entry.led)
     → bytes_with c.arrival (part_of (origin_at code path) (take r.for_it.place x.led)) ≡ bytes → part_of (origin_at code path) (take (suc r.for_it.place) x.led) ≡ Some bytes
 joined_by v x code path n z bytes r c is =
@@ -150,7 +150,7 @@ later_bytes code path n body a before bytes later is same =
     differs : (m : ℕ) → (m ≡ 0 → ⊥) → (m == 0) ≡ false
     differs m isnt = grind (arith, nat_tests)
 
--- the last ask of a row, and what it led to
+-- the last ask of a row, and its effect
 record WritesTo (v : WorldState) (x : Exact v) (code : ℕ) (path : List (List ℕ)) (last : RowAsk) (bytes : List ℕ) : Type 0 where
   n : ℕ
   entry : WriteEntry v x code path n last
@@ -178,7 +178,7 @@ success_of : (z : RowAsk) (left : List RowAsk) → IsTaken z left → z.code / 3
 success_of z [] taken = taken.0
 success_of z (w ∷ left) taken = omega arith
 
--- what a row from an ask on comes to, where the bytes up to that are these
+-- the outcome of a row from an ask on, where the bytes up to that are these
 record RestWrites (v : WorldState) (x : Exact v) (code : ℕ) (path : List (List ℕ)) (z : RowAsk) (left : List RowAsk) (bytes : List ℕ) : Type 0 where
   writes : WritesTo v x code path (last_of z left) bytes
   acts : (k : ℕ) → Contains (asks_of (z ∷ left)) k → IsNoActOrLast v x (last_of z left).ask k
@@ -240,7 +240,7 @@ one_act v x other i y a has at same made =
     let act_of : ℕ → Acted → Act = λ k b. record { ask = k; acted = b } in
     ap (λ (k : ℕ). act_of k other.acted) (sym same) ∙ ap (act_of y.ask) acted
 
--- what led to no act has none
+-- an entry that led to no act has none
 no_act : (v : WorldState) (x : Exact v) (other : Act) (i : ℕ) (y : Entry) → Contains v.acts other → slice_get x.led i ≡ Some y → y.ask ≡ other.ask → act_in y.led ≡ None → ⊥
 no_act v x other i y has at same none =
     let h : HasEntry x.led other = All-contains (HasEntry x.led) v.acts other x.ledger.acts_have has in

@@ -6,7 +6,7 @@ use Rattle.coap_client.specs.Exchange.{IsNew}
 use Rattle.coap_bind.specs.Server.{start as nothing_came}
 use Rattle.servient_world.specs.World.{WorldState, IsStart, WorldMove, ask, deliver, PlaysAll}
 
--- a new client beside a server in which 16 exchanges may live and 16 watchers may be, at the moment 0
+-- a new client beside a server in which 16 exchanges may live and 16 observers may be, at the moment 0
 abbrev pub world_of : State → WorldState
 world_of client = record {
   moment = 0;
@@ -29,7 +29,7 @@ observe_root = record { code = 1; path = []; observe = Some true; format = None;
 abbrev pub ask_that_comes : List WorldMove
 ask_that_comes = ask observe_root ∷ deliver 0 ∷ []
 
--- and what the server sent back comes to the client
+-- and the server's reply comes to the client
 abbrev pub ask_and_reply : List WorldMove
 ask_and_reply = ask observe_root ∷ deliver 0 ∷ deliver 1 ∷ []
 

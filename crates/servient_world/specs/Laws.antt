@@ -1,4 +1,4 @@
--- What holds of the world over every schedule.
+-- Laws of the world over every schedule.
 use Rattle.std.specs.Prelude.{◌≡◌, ◌≢◌, ◌<◌, ◌≤◌, ◌-◌, ◌⊎◌, ℕ, true, List, length, codes, All, AllPairs, Contains, Option, Some, None, IsSome, slice_get}
 use Rattle.coap_msg.specs.declared.block.Block.{Block}
 use Rattle.coap_msg.specs.Grammar.{CoapMessage, Spells}
@@ -51,7 +51,7 @@ blocks_by verb.Other a = blocks.Whole
 abbrev pub blocks_for : PlainAsk → BlockUse
 blocks_for a = blocks_by a.request.verb a
 
--- what the server says of an act for an ask
+-- the server's reply on an act for an ask
 abbrev pub said_of : Acted → Reply
 said_of a = answer_reply (blocks_for a.what) a.outcome
 
@@ -64,7 +64,7 @@ pub record IsAnsweredBy (acts : List Act) (k code : ℕ) (block : Option Block) 
   pub says_block : block ≡ block2_of (reply_options (said_of act.acted))
   pub says_payload : payload ≡ (said_of act.acted).payload
 
--- an ask, and the message that it is
+-- an ask, and its message
 pub record Asked (asks : List Outstanding) (k : ℕ) : Type 0 where
   pub request : Outstanding
   pub ask : slice_get asks k ≡ Some request
@@ -85,8 +85,8 @@ AsksOfBlocks asks k =
     (x : Asked asks k)
     × (IsSome (what_is_asked x.message).block1 ⊎ ((b : Block) × ((what_is_asked x.message).block2 ≡ Some b) × IsLater b))
 
--- For an ask for any other path and without such blocks that ended with any other response the server made an act (and only one,
--- by the law before), and the response says what that came to.
+-- For an ask for any other path and without such blocks that ended with any other response the server made an act (and
+-- only one, by the law before), and the response says its outcome.
 abbrev pub AnsweredOnce : Type 0
 AnsweredOnce =
     (first_id exchanges watchers : ℕ) (moves : List WorldMove) (w v : WorldState) (k code : ℕ) (block : Option Block) (payload : List ℕ)
@@ -94,7 +94,7 @@ AnsweredOnce =
     → ¬ (AsksLinks v.asks k) → ¬ (AsksOfBlocks v.asks k) → Contains v.ends (record { ask = k; end = answered code block payload })
     → IsExcuse code payload ⊎ IsAnsweredBy v.acts k code block payload
 
--- For an ask that ended with a value of what it observes the server made an act.
+-- For an ask that ended with a value of its target the server made an act.
 abbrev pub ObservedOnce : Type 0
 ObservedOnce =
     (first_id exchanges watchers : ℕ) (moves : List WorldMove) (w v : WorldState) (k : ℕ)
@@ -111,7 +111,7 @@ ValuesNeverGoBack =
     (first_id exchanges watchers : ℕ) (moves : List WorldMove) (w v : WorldState)
     → IsStart first_id exchanges watchers w → PlaysAll moves w v → length v.asks ≤ 65536 → v.ids ≤ 65536 → NeverGoBack v.taken
 
--- A value was read by the registration of its ask: it is what the act for that came to.
+-- A value was read by the registration of its ask: it is the outcome of the act for that.
 pub record WasRead (acts : List Act) (x : Value) : Type 0 where
   pub act : Act
   pub made : Contains acts act

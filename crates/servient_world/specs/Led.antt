@@ -1,5 +1,6 @@
--- What comes of a datagram at the server, as far as acts and blocks go (RFC 7252, section 4.5; RFC 7959, sections 2.4 and 2.5;
--- RFC 6690, section 4). A request that is admitted leads to exactly one of what `Led` lists, and only two of these are acts.
+-- The effects of a datagram at the server, as far as acts and blocks go (RFC 7252, section 4.5; RFC 7959, sections 2.4
+-- and 2.5; RFC 6690, section 4). A request that is admitted leads to exactly one of the cases of `Led`, and only two of
+-- these are acts.
 use Rattle.std.specs.Prelude.{◌≡◌, ◌≢◌, ◌⊎◌, ℕ, true, false, List, [], ◌∷◌, Option, Some, None, option_map, slice_get}
 use Rattle.std.specs.List.{remove}
 use Rattle.coap_msg.specs.declared.block.Block.{Block}
@@ -25,7 +26,7 @@ use Rattle.coap_bind.specs.Server.{is_request, asks_links, observing_in, wanted_
 use Rattle.coap_bind.specs.Laws.{HasShortPlace}
 use Rattle.coap_bind.specs.Treating.{Acted, Treats}
 
--- ---- what a request leads to
+-- ---- the effect of a request
 
 pub data Led : Type 0 where
   -- its options are refused, or it is ignored for them
@@ -34,7 +35,8 @@ pub data Led : Type 0 where
   to_no_memory : Led
   -- it is for the links: their text is given, or its verb is refused
   to_links : Led
-  -- it asks for a block after the first of what is at this path, which is given of this body that is kept; or none is kept for it
+  -- it asks for a block after the first of the representation at this path, which is given of this body that is kept;
+  -- or none is kept for it
   to_later_block : List (List ℕ) → Block → Option Content → Led
   -- a block of a body came, to which this was answered: others are to come, or it isn't taken
   to_parts : BlockArrival → Added → Led
@@ -53,8 +55,8 @@ act_in (to_parts a added) = None
 act_in (to_act a) = Some a
 act_in (to_act_on_whole block a) = Some a
 
--- Why the request of a message leads to this, and the reply, which says this sequence number of an observation if it says one.
--- This is the text of the links.
+-- The cases in which the request of a message leads to this, and the reply, which says this sequence number of an
+-- observation if it says one. This is the text of the links.
 pub data LeadsTo (from : Endpoint) (now : ℕ) (m : CoapMessage) (links : List ℕ) (seen : Option ℕ) (led : Led) (r : Reply) : Type 0 where
   is_refused : faults_of m.options ≢ [] → led ≡ to_refusal → LeadsTo from now m links seen led r
   finds_no_memory : led ≡ to_no_memory → r ≡ reply_of Memory → LeadsTo from now m links seen led r
@@ -72,7 +74,7 @@ pub data LeadsTo (from : Endpoint) (now : ℕ) (m : CoapMessage) (links : List �
       → led ≡ to_act_on_whole (block_arrival from now m b) a → a.what ≡ with_whole_body body (what_is_asked m)
       → HasCode a.outcome → HasShortPlace a.outcome → r ≡ observed seen (answer_reply (Joined b) a.outcome) → LeadsTo from now m links seen led r
 
--- ---- what that leaves of the bodies that are kept, and of the parts
+-- ---- the bodies that are kept afterwards, and the parts
 
 pub record SameBlocks (s t : Server) : Type 0 where
   pub bodies : t.bodies ≡ s.bodies
@@ -125,7 +127,7 @@ pub record IsPassedOver (bytes : List ℕ) (now : ℕ) (act : Option Acted) (s t
 abbrev pub IsBack : CoapMessage → Led → Reply → ℕ → List (List ℕ) → Type 0
 IsBack m led r next back = (back ≡ spelling (coap_reply r (head_of m) next) ∷ []) ⊎ ((back ≡ []) × (led ≡ to_refusal))
 
--- It is a request that is admitted, and leads to one of what `Led` lists.
+-- It is a request that is admitted, and leads to one of the cases of `Led`.
 pub record IsLed (from : Endpoint) (bytes : List ℕ) (now : ℕ) (act : Option Acted) (back : List (List ℕ)) (s t : Server) : Type 0 where
   pub message : CoapMessage
   pub slot : ℕ
@@ -141,7 +143,7 @@ pub record IsLed (from : Endpoint) (bytes : List ℕ) (now : ℕ) (act : Option 
   pub sent : IsBack message led reply s.next_id back
   pub links : t.links ≡ s.links
 
--- These are all cases: so an act is made for what leads to one, and for nothing else.
+-- These are all cases: so an act is made for a request that leads to one, and for nothing else.
 abbrev pub AllAreLed : Type 0
 AllAreLed =
     (from : Endpoint) (bytes : List ℕ) (now : ℕ) (act : Option Acted) (back : List (List ℕ)) (s t : Server)

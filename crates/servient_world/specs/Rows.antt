@@ -1,5 +1,5 @@
--- Rows of asks for the blocks of one body (RFC 7959, sections 2.4 and 2.5): what they come to together, where no other ask of the
--- same kind comes between.
+-- Rows of asks for the blocks of one body (RFC 7959, sections 2.4 and 2.5): their outcome together, where no other ask
+-- of the same kind comes between.
 use Rattle.std.specs.Prelude.{◌≡◌, ◌≢◌, ◌⊎◌, ◌<◌, ◌≤◌, ◌+◌, ◌/◌, ℕ, Bool, true, false, List, [], ◌∷◌, ◌++◌, length, map, AllPairs, Contains, Option, Some, None, slice_get}
 use Rattle.coap_msg.specs.declared.block.Block.{Block}
 use Rattle.coap_msg.specs.declared.constants.TheConstants.{GET, POST, PUT}
@@ -59,7 +59,7 @@ NoOther asks IsSuch x row =
 abbrev pub IsOfPath : List (List ℕ) → CoapMessage → Type 0
 IsOfPath path m = (what_is_asked m).request.path ≡ path
 
--- it asks by GET for the block of this number and size of what is at a path, and not to observe
+-- it asks by GET for the block of this number and size of the representation at a path, and not to observe
 pub record AsksForBlock (asks : List Outstanding) (path : List (List ℕ)) (szx n k : ℕ) : Type 0 where
   pub asked : Asked asks k
   pub code : asked.message.code ≡ GET
@@ -97,7 +97,7 @@ pub record AreOfOneAct (path : List (List ℕ)) (v : WorldState) (x : RowAsk) (r
       → (a : Act) × Contains v.acts a × (a.ask ≡ x.ask) × IsReadOf (payload_of a.acted.outcome) x row
   pub of_links : is_links_path path ≡ true → IsReadOf v.server.links x row
 
--- What a row of asks reads is of one act.
+-- A row of asks reads the outcome of one act.
 abbrev pub ReadsAreOfOneAct : Type 0
 ReadsAreOfOneAct =
     (first_id exchanges watchers : ℕ) (moves : List WorldMove) (w v : WorldState) (path : List (List ℕ)) (szx : ℕ) (x : RowAsk) (row : List RowAsk)
@@ -135,7 +135,7 @@ AreWrites asks ends code path szx n [] = Unit {0}
 AreWrites asks ends code path szx n (x ∷ row) =
     AsksWithBlock asks code path szx n x.ask x.body × IsAnsweredSo ends x × IsTaken x row × AreWrites asks ends code path szx (n + 1) row
 
--- One act was made for the asks of a row: for the last, on what that asks with the bodies of all, joined.
+-- One act was made for the asks of a row: for the last, on its request with the bodies of all, joined.
 pub record IsOneAct (v : WorldState) (x : RowAsk) (row : List RowAsk) : Type 0 where
   pub act : Act
   pub made : Contains v.acts act
@@ -144,7 +144,7 @@ pub record IsOneAct (v : WorldState) (x : RowAsk) (row : List RowAsk) : Type 0 w
   pub on_all : act.acted.what ≡ with_whole_body (joined_bodies (x ∷ row)) (what_is_asked asked.message)
   pub only : (other : Act) → Contains v.acts other → Contains (asks_of (x ∷ row)) other.ask → other ≡ act
 
--- What a row of asks writes is acted on once, whole.
+-- A body that a row of asks writes is acted on once, whole.
 abbrev pub WritesAreOneAct : Type 0
 WritesAreOneAct =
     (first_id exchanges watchers : ℕ) (moves : List WorldMove) (w v : WorldState) (code : ℕ) (path : List (List ℕ)) (szx : ℕ) (x : RowAsk) (row : List RowAsk)

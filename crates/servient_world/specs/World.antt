@@ -1,10 +1,10 @@
--- The world of both ends: one CoAP client, one CoAP server, and all datagrams that either ever sent (RFC 7252, sections 4.2 to
--- 4.5; RFC 7641, section 4.5). The network is that list: of what was sent in the last 100 seconds any may come, any number of
--- times and in any order.
+-- The world of both ends: one CoAP client, one CoAP server, and all datagrams that either ever sent (RFC 7252, sections
+-- 4.2 to 4.5; RFC 7641, section 4.5). The network is that list: any datagram of the last 100 seconds may come, any
+-- number of times and in any order.
 --
--- Both ends are what their own crates say they are: the client does what `Asks`, `ComesDue` and `Delivers` of coap_client say,
--- the server what `Treats` (`Hears`, `Answers`), `with_emitted` and `SendsNext` of coap_bind say. Beside that the world notes
--- what each datagram was sent for, and no end looks at that. No definition here looks into bytes.
+-- Both ends are as their own crates say: the client acts by `Asks`, `ComesDue` and `Delivers` of coap_client, the
+-- server by `Treats` (`Hears`, `Answers`), `with_emitted` and `SendsNext` of coap_bind. Beside that the world notes the
+-- purpose of each datagram, and no end looks at that. No definition here looks into bytes.
 use Rattle.std.specs.Prelude.{◌≡◌, ◌<◌, ◌≤◌, ◌+◌, ◌-◌, ◌==◌, ◌&&◌, ◌||◌, ℕ, nat_le, Bool, true, false, List, [], ◌∷◌, ◌++◌, length, map, take, Option, Some, None, option_map, option_to_list, slice_get, if◌then◌else◌}
 use Rattle.std.specs.Str.{bytes_eq}
 use Rattle.coap_msg.specs.declared.block.Block.{Block}
@@ -29,22 +29,22 @@ use Rattle.coap_bind.specs.Treating.{Acted, Treats}
 use Rattle.coap_bind.specs.Writing.{notification}
 use Rattle.servient_world.specs.declared.network.TheConstants.{MAX_LATENCY}
 
--- ---- what there is
+-- ---- the state
 
--- where the two ends are
+-- the endpoints of the two ends
 abbrev pub client_place : Endpoint
 client_place = record { host = 1; port = 49152 }
 
 abbrev pub server_place : Endpoint
 server_place = record { host = 2; port = 5683 }
 
--- What a datagram was sent for. Asks are counted from 0, as they are made, and values from 1, as they are emitted.
+-- The purpose of a datagram. Asks are counted from 0, as they are made, and values from 1, as they are emitted.
 pub data Purpose : Type 0 where
   -- to ask: it is a copy of this ask
   copy_of : ℕ → Purpose
   -- because a copy of this ask came
   reply_to : ℕ → Purpose
-  -- to notify of what this ask registered for: with this sequence number, of the value in this place
+  -- to notify of the target for which this ask registered: with this sequence number, of the value in this place
   notice_for : ℕ → ℕ → ℕ → Purpose
   -- because of something else
   other : Purpose
@@ -61,8 +61,8 @@ pub record Act : Type 0 where
   pub ask : ℕ
   pub acted : Acted
 
--- how an ask ended: by a response, of which the block is that of its body which it says; by a value of what it registered for;
--- by a Reset; or by time
+-- the end of an ask: by a response, of which the block is that of its body which it says; by a value of its target; by
+-- a Reset; or by time
 pub data End : Type 0 where
   answered : ℕ → Option Block → List ℕ → End
   observed : End
@@ -73,7 +73,8 @@ pub record AskEnd : Type 0 where
   pub ask : ℕ
   pub end : End
 
--- a value that was taken for an ask, and its place: 0 for what its registration read, and else that of an emission
+-- a value that was taken for an ask, and its place: 0 for the one that its registration read, and else that of an
+-- emission
 pub record Value : Type 0 where
   pub ask : ℕ
   pub place : ℕ
@@ -84,9 +85,9 @@ pub record Emission : Type 0 where
   pub target : ℕ
   pub text : List ℕ
 
--- Both ends at a moment, and what happened: the asks, each as it was when it was first sent; all that was sent; the acts; the
--- values that were emitted; how often the server used its next message ID; how asks ended; and the values that the client took.
--- Each list is in the order in which it came about.
+-- Both ends at a moment, and the history: the asks, each as it was when it was first sent; all datagrams that were
+-- sent; the acts; the values that were emitted; the number of times that the server used its next message ID; the ends
+-- of asks; and the values that the client took. Each list is in the order in which it came about.
 pub record WorldState : Type 0 where
   pub moment : ℕ
   pub client : State
@@ -99,8 +100,8 @@ pub record WorldState : Type 0 where
   pub ends : List AskEnd
   pub taken : List Value
 
--- Nothing happened yet: a new client, and a server in which so many exchanges may live and so many watchers may be, with some
--- text of its links.
+-- Nothing happened yet: a new client, and a server in which so many exchanges may live and so many observers may be,
+-- with some text of its links.
 pub record IsStart (first_id exchanges watchers : ℕ) (w : WorldState) : Type 0 where
   pub client : IsNew first_id w.client
   pub links : List ℕ
@@ -115,8 +116,9 @@ pub record IsStart (first_id exchanges watchers : ℕ) (w : WorldState) : Type 0
 
 -- ---- moves
 
--- What may happen: the client asks; it does what is due; the datagram that was sent as this one comes; so much time passes;
--- another endpoint's datagram comes to the server; a target gets a new value; the server sends what is to be sent to watchers.
+-- The moves: the client asks; it sends again or gives up, if that is due; the datagram that was sent as this one comes;
+-- so much time passes; another endpoint's datagram comes to the server; a target gets a new value; the server sends a
+-- notification.
 pub data WorldMove : Type 0 where
   ask : Asking → WorldMove
   due : WorldMove
@@ -150,7 +152,7 @@ pub data ClientAsks (a : Asking) (w v : WorldState) : Type 0 where
       → v ≡ record w { client = at_moment w.moment w.client } → ClientAsks a w v
   skips_ask : ¬ (MayAsk a) → v ≡ w → ClientAsks a w v
 
--- it does what is due
+-- it sends again or gives up, if that is due
 pub data ClientDoesDue (w v : WorldState) : Type 0 where
   retransmits : (n : ℕ) (old new : List ℕ) (t : State) → ComesDue (at_moment w.moment w.client) (what.Send n) old new t
       → v ≡ with_sent (record w { client = t }) client_place server_place (copy_of (latest w)) (take n new ∷ [])
@@ -209,7 +211,7 @@ pub data Receives (from : Endpoint) (bytes : List ℕ) (now : ℕ) (act : Option
 abbrev pub id_used : Server → Server → ℕ
 id_used s t = if t.next_id == s.next_id then 0 else 1
 
--- an act that was made on what was sent for this
+-- an act that was made on a datagram of this purpose
 abbrev pub acts_for : Purpose → Option Acted → List Act
 acts_for (copy_of k) (Some acted) = record { ask = k; acted = acted } ∷ []
 acts_for (copy_of k) None = []
@@ -217,7 +219,7 @@ acts_for (reply_to k) act = []
 acts_for (notice_for k q e) act = []
 acts_for other act = []
 
--- what is sent because that came which was sent for this
+-- the purpose of the reply to a datagram of this purpose
 abbrev pub purpose_back : Purpose → Purpose
 purpose_back (copy_of k) = reply_to k
 purpose_back (reply_to k) = other
@@ -254,7 +256,7 @@ abbrev pub registration_from : ℕ → List ℕ → List Outstanding → Option 
 registration_from k token [] = None
 registration_from k token (a ∷ asks) = if a.registers && bytes_eq token a.token then Some k else registration_from (k + 1) token asks
 
--- what a notification was sent for: to the client, for the ask that registered with its token
+-- the purpose of a notification: to the client, for the ask that registered with its token
 abbrev pub purpose_at : Option ℕ → ℕ → ℕ → Purpose
 purpose_at None sequence place = other
 purpose_at (Some k) sequence place = notice_for k sequence place
@@ -279,7 +281,7 @@ abbrev pub with_notice : Option Notice → WorldState → WorldState
 with_notice None w = w
 with_notice (Some n) w = record w { sent = w.sent ++ notice_sent w.moment w.asks w.emitted n ∷ []; ids = w.ids + one_if n.fresh }
 
--- it sends what is to be sent to watchers: one notification at most
+-- it sends notifications: one at most
 pub record ServerNotifies (w v : WorldState) : Type 0 where
   pub notice : Option Notice
   pub after : Server
@@ -288,11 +290,11 @@ pub record ServerNotifies (w v : WorldState) : Type 0 where
 
 -- ---- the network
 
--- what was sent may still come: for 100 seconds, to one of the two ends
+-- a datagram may still come: for 100 seconds, to one of the two ends
 abbrev pub may_come : ℕ → Datagram → Bool
 may_come now d = nat_le (now - d.moment) MAX_LATENCY && (is_same_endpoint d.to client_place || is_same_endpoint d.to server_place)
 
--- it comes to where it was sent
+-- it comes to the end to which it was sent
 pub data Comes (d : Datagram) (w v : WorldState) : Type 0 where
   too_late : may_come w.moment d ≡ false → v ≡ w → Comes d w v
   to_client : may_come w.moment d ≡ true → d.to ≡ client_place → ClientTakes d w v → Comes d w v
@@ -316,7 +318,7 @@ pub data ComesElsewhere (from : Endpoint) (bytes : List ℕ) (w v : WorldState) 
 
 -- ---- all moves
 
--- What a move does. One that isn't allowed is skipped.
+-- The effect of a move. One that isn't allowed is skipped.
 abbrev pub Plays : WorldMove → WorldState → WorldState → Type 0
 Plays (ask a) w v = ClientAsks a w v
 Plays due w v = ClientDoesDue w v

@@ -1,22 +1,22 @@
-//! Laws of the world of both ends, as contracts of functions that do nothing.
+//! Laws of the world of both ends, as contracts of functions that do nothing, since a law is proved only as a clause.
 
 ghost use Rattle.servient_world.specs.Examples.{SomeoneActs, SomeoneTakesAValue};
 ghost use Rattle.servient_world.specs.Led.{AllAreLed};
 ghost use Rattle.servient_world.specs.Rows.{ReadsAreOfOneAct, WritesAreOneAct};
 ghost use Rattle.servient_world.specs.Laws.{ActedOnce, AnsweredOnce, ObservedOnce, ValuesNeverGoBack, ValuesHaveASource};
 
-/// For each ask the server makes at most one act, whatever is lost, repeated or reordered.
+/// For each ask the server makes at most one act, whatever is lost, duplicated or reordered.
 pub fn acted_once()
     ensures { ActedOnce }
 {}
 
-/// For each ask that was answered, but by excuses, for the links, and with blocks that need no act of their own, the server made
-/// an act, and the response says what that came to.
+/// For each ask that was answered, but by excuses, for the links, and with blocks that need no act of their own, the
+/// server made an act, and the response says its outcome.
 pub fn answered_once()
     ensures { AnsweredOnce }
 {}
 
-/// For each ask that ended with a value of what it observes the server made an act.
+/// For each ask that ended with a value of its target the server made an act.
 pub fn observed_once()
     ensures { ObservedOnce }
 {}
@@ -37,12 +37,12 @@ pub fn all_are_led()
     ensures { AllAreLed }
 {}
 
-/// What a row of asks for the blocks of one body reads is of one act, or of the links.
+/// A row of asks for the blocks of one body reads the outcome of one act, or the links.
 pub fn reads_are_of_one_act()
     ensures { ReadsAreOfOneAct }
 {}
 
-/// What a row of asks with the blocks of one body writes is acted on once, whole.
+/// A body that a row of asks writes in blocks is acted on once, whole.
 pub fn writes_are_one_act()
     ensures { WritesAreOneAct }
 {}

@@ -1,6 +1,6 @@
-//! Both ends over every schedule: one CoAP client and one CoAP server (RFC 7252, RFC 7641), and a network that may lose,
-//! repeat and reorder what either sends within 100 seconds. It has laws alone: `specs/World.antt` is the world,
-//! `specs/Laws.antt` what holds of it after every list of moves. Each end is what its own crate says that it is.
+//! Both ends over every schedule: one CoAP client and one CoAP server (RFC 7252, RFC 7641), and a network that may
+//! lose, duplicate and reorder their datagrams within 100 seconds. It has laws alone: `specs/World.antt` is the world,
+//! and `specs/Laws.antt` its laws after every list of moves. Each end is as its own crate says.
 #![tactic(auto)]
 
 mod laws;

@@ -1,4 +1,4 @@
--- Which slots are in a list, and what a slot more or fewer changes there.
+-- The slots of a list, and how a slot more or fewer changes them.
 use Rattle.std.proofs.Common.{if◌then◌else◌, ◌≡◌, ◌==◌, ◌||◌, ◌⊎◌, ℕ, Bool, true, false, not, List, [], ◌∷◌, ◌++◌, length, get_or, set, inl, inr, refl, ap, subst, ◌∙◌, ◌<◌, ◌≤◌, arith, eqb}
 use Rattle.std.specs.List.{AllByRecursion, IsDistinct}
 use Rattle.std.proofs.lemmas.Bool.Decides.{nat_tests, eqb_tells}

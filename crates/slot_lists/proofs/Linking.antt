@@ -100,7 +100,7 @@ at_both P ends lists list i e new within_ends within_lists here others = elim (e
       (subst (P (ends_at ends i)) (sym (get_or-set_other lists list i new [] w.1)) (others w.1))
 ]
 
--- what is to hold of the links, of the ends and of the slots of the new list
+-- the conditions on the links, on the ends and on the slots of the new list
 record Changed (links links2 : List Link) (lists : List (List ℕ)) (list : ℕ) (e : Ends) (new : List ℕ) : Type 0 where
   many : length links2 ≡ length links
   first : e.first ≡ first_of new
@@ -302,7 +302,7 @@ makes_empty count links =
 abbrev pub seen : List Link → List Ends → Lists
 seen links ends = record { capacity = length links; lists = lists_in links ends }
 
--- what is seen of links and ends that make these lists
+-- the view of links and ends that make these lists
 pub seen_as : (links : List Link) (ends : List Ends) (lists : List (List ℕ)) (capacity : ℕ) → Makes links ends lists → length links ≡ capacity
     → seen links ends ≡ record { capacity = capacity; lists = lists }
 seen_as links ends lists capacity m e = λ i. record { capacity = e i; lists = sym (shown links ends lists m) i }

@@ -68,7 +68,7 @@ same_neighbours capacity before after before2 after2 p (x ∷ xs) b a h = (
 
 -- ---- one slot more
 
--- what is linked otherwise once a slot was put after the last one
+-- the links that change once a slot was put after the last one
 pub record Appended (before after before2 after2 : ℕ → Option ℕ) (slot : ℕ) (last : Option ℕ) : Type 0 where
   pub back : before2 slot ≡ last
   pub on : after2 slot ≡ None
@@ -94,7 +94,7 @@ neighbours_push capacity slot before after before2 after2 p (x ∷ y ∷ ys) bel
 
 -- ---- one slot fewer
 
--- what is linked otherwise once a slot was taken out: its neighbours, to one another
+-- the links that change once a slot was taken out: its neighbours, to one another
 pub record Bridged (before after before2 after2 : ℕ → Option ℕ) (slot : ℕ) : Type 0 where
   pub next_back : (z : ℕ) → after slot ≡ Some z → before2 z ≡ before slot
   pub others_back : (z : ℕ) → (after slot ≡ Some z → ⊥) → before2 z ≡ before z

@@ -29,7 +29,7 @@ slots_from links (suc most) (Some slot) = slot ∷ slots_from links most (next_i
 abbrev pub lists_in : List Link → List Ends → List (List ℕ)
 lists_in links ends = map (λ e. slots_from links (length links) e.first) ends
 
--- what is seen
+-- the lists that are seen
 abbrev pub lists_of : Inside → Lists
 lists_of x = record { capacity = length x.links.items; lists = lists_in x.links.items x.ends.items }
 
@@ -58,7 +58,7 @@ pub record Makes (links : List Link) (ends : List Ends) (lists : List (List ℕ)
   pub distinct : (i : ℕ) → AreDistinct (slice_index_or lists i [])
   pub apart : (i j slot : ℕ) → is_among slot (slice_index_or lists i []) ≡ true → is_among slot (slice_index_or lists j []) ≡ true → i ≡ j
 
--- what always holds of it
+-- its invariant
 abbrev pub IsLinked : Inside → Type 0
 IsLinked x = Makes x.links.items x.ends.items (lists_in x.links.items x.ends.items)
 

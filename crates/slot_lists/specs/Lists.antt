@@ -1,4 +1,4 @@
--- What contracts see of a `SlotLists`: lists of slots.
+-- Contracts see a `SlotLists` as lists of slots.
 use Rattle.std.specs.Prelude.{◌≡◌, ◌<◌, ◌==◌, ℕ, Bool, true, false, not, List, [], ◌∷◌, filter, Option, Some, None, slice_index_or, slice_set, replicate, if◌then◌else◌}
 use Rattle.std.specs.List.{list_any}
 
@@ -40,7 +40,7 @@ abbrev pub first_of : List ℕ → Option ℕ
 first_of [] = None
 first_of (slot ∷ slots) = Some slot
 
--- what is in a list from a slot on
+-- the part of a list from a slot on
 abbrev pub from_slot : Option ℕ → List ℕ → List ℕ
 from_slot None slots = []
 from_slot (Some slot) [] = []

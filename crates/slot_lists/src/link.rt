@@ -1,4 +1,4 @@
-//! What a slot knows of its neighbours, and a list of its two ends.
+//! The links of a slot to its neighbours, and the two ends of a list.
 
 /// The neighbours of a slot in its list.
 #[derive(Clone, Copy)]

@@ -5,7 +5,7 @@ use Rattle.std.specs.Prelude.{ℕ, ◌+◌, ◌*◌, ◌/◌, ◌%◌, ◌^◌}
 abbrev pub number_after : ℕ → ℕ
 number_after x = (x * 6364136223846793005 + 1442695040888963407) % 2 ^ 64
 
--- What is drawn where the generator comes to a number: its upper 31 bits, because the lower bits of such a generator
--- come round soon.
+-- The number that is drawn where the generator comes to this one: its upper 31 bits, because the lower bits of such a
+-- generator come round soon.
 abbrev pub drawn : ℕ → ℕ
 drawn x = x / 2 ^ 33

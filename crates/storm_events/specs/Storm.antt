@@ -15,9 +15,9 @@ use Rattle.storm_events.specs.declared.storm.Storm.{Storm}
 use Rattle.storm_events.specs.Generator.{number_after, drawn}
 use Rattle.storm_events.specs.Datagrams.{bytes_of}
 
--- ---- what comes
+-- ---- the event that comes
 
--- by a number below 8
+-- the choice by a number below 8
 abbrev pub choice_of : ℕ → Choice
 choice_of c =
     if nat_lt c 3 then Get  -- 0, 1, 2
@@ -30,14 +30,14 @@ choice_of c =
 abbrev pub comes : ℕ → Option Datagram → Coming
 comes x datagram = record { number = x; datagram = datagram }
 
--- One of the datagrams that came so far comes again, from its own endpoint: that with the number drawn, of so many as there
--- are, repeats among them, counted from 0. Where none came yet nothing is drawn, and time goes by.
+-- One of the datagrams that came so far comes again, from its own endpoint: that with the number drawn, of so many as
+-- there are, duplicates among them, counted from 0. Where none came yet nothing is drawn, and time goes by.
 abbrev pub again : ℕ → List Datagram → Coming
 again x [] = comes x None
 again x (first ∷ others) =
     comes (number_after x) (slice_get (first ∷ others) (drawn (number_after x) % length (first ∷ others)))
 
--- What comes by a choice, where the generator is at x, with this message ID from this endpoint, if it is a new request.
+-- The event of a choice, where the generator is at x, with this message ID from this endpoint, if it is a new request.
 abbrev pub coming_by : Choice → ℕ → ℕ → Endpoint → List Datagram → Coming
 coming_by Get x id from so_far = comes x (Some (record { from = from; id = id; asks = ConfirmableGet }))
 coming_by Put x id from so_far =
@@ -85,7 +85,7 @@ with_event i s =
 
 -- ---- the whole
 
--- what the storm has come to after so many events: at first the generator is at the seed, and the moment is 0
+-- the state of the storm after so many events: at first the generator is at the seed, and the moment is 0
 abbrev pub storm_after : ℕ → ℕ → Storm
 storm_after seed zero = record { number = seed; moment = 0; datagrams = []; events = [] }
 storm_after seed (suc i) = with_event i (storm_after seed i)

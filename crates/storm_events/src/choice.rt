@@ -1,9 +1,9 @@
-//! Which event comes.
+//! The kinds of events.
 
 ghost use Rattle.std.specs.Prelude.{◌≡◌};
 ghost use Rattle.storm_events.specs.Storm.{choice_of as chosen_by};
 
-/// What may come.
+/// A kind of event.
 #[derive(Clone, Copy, Debug, PartialEq, Eq)]
 pub enum Choice {
     /// A Confirmable GET.
@@ -18,7 +18,7 @@ pub enum Choice {
     Tick,
 }
 
-/// What comes by a number below 8.
+/// The choice by a number below 8.
 pub fn choice_of(number: u64) -> Choice
     ensures { result ≡ chosen_by number }
 {

@@ -1,4 +1,4 @@
-//! What comes: a datagram or none.
+//! One event: a datagram or none.
 
 ghost use Rattle.std.specs.Prelude.{◌≡◌};
 ghost use Rattle.storm_events.specs.Storm.{again as comes_again, coming_by as comes_by};
@@ -9,10 +9,10 @@ use crate::datagrams::Datagrams;
 use crate::generator::{drawn, number_after};
 use coap_msg::Endpoint;
 
-/// How many statuses are written: the lamp takes 0 to 100, and refuses the others.
+/// The number of statuses that are written: the lamp takes 0 to 100, and refuses the others.
 const STATUSES: u64 = 128;
 
-/// What comes.
+/// One event.
 #[derive(Clone, Copy, Debug, PartialEq, Eq)]
 pub struct Coming {
     /// The number to which the generator has come.
@@ -21,7 +21,7 @@ pub struct Coming {
     pub datagram: Option<Datagram>,
 }
 
-/// What comes by a choice, where the generator is at this number; a new request has this message ID and comes from this
+/// The event of a choice, where the generator is at this number; a new request has this message ID and comes from this
 /// endpoint.
 pub fn coming_by(choice: Choice, number: u64, id: u16, from: Endpoint, so_far: &Datagrams) -> Coming
     ensures { result ≡ comes_by choice number id from so_far.now }

@@ -15,7 +15,7 @@ const PATH: &[u8] = b"\xb4lamp\x0aproperties\x06status";
 /// The Content-Format of JSON, and the payload marker.
 const JSON_AND_MARKER: &[u8] = b"\x11\x32\xff";
 
-/// What a datagram asks of the status.
+/// A datagram's request to the status.
 #[derive(Clone, Copy, Debug, PartialEq, Eq)]
 pub enum Asks {
     /// To read it, in a Confirmable message.

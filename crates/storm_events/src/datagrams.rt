@@ -32,7 +32,7 @@ impl Datagrams {
         }
     }
 
-    /// How many there are.
+    /// The number of datagrams.
     pub fn len(&self) -> usize
         ensures { result ≡ length self.now }
     {

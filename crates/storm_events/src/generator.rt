@@ -6,7 +6,7 @@ ghost use Rattle.storm_events.specs.Generator.{drawn as drawn_at, number_after a
 /// Knuth's multiplier for MMIX (The Art of Computer Programming, volume 2, section 3.3.4).
 const MULTIPLIER: u64 = 6364136223846793005;
 
-/// What is added each time.
+/// The number that is added each time.
 const INCREMENT: u64 = 1442695040888963407;
 
 /// The number after another.
@@ -16,7 +16,8 @@ pub fn number_after(number: u64) -> u64
     number.wrapping_mul(MULTIPLIER).wrapping_add(INCREMENT)
 }
 
-/// What is drawn where the generator comes to a number.
+/// The number that is drawn where the generator comes to this one. Its lower bits are left out, because they come round
+/// soon.
 pub fn drawn(number: u64) -> u64
     ensures { result ≡ drawn_at number }
 {

@@ -1,5 +1,5 @@
-//! The storm: a load of events that a seed and their number determine. What they are is a definition,
-//! `events_of` of `specs/Storm.antt`, which another program can compute; `storm_events` gives exactly these.
+//! The storm: a load of events that a seed and their number determine. `events_of` of `specs/Storm.antt` defines them,
+//! and another program can compute it; `storm_events` gives exactly these.
 //!
 //! ```
 //! use storm_events::storm_events;

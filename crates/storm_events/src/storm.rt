@@ -15,29 +15,29 @@ use servient_outside::{Event, EventWithBytes, Events, What};
 use std::alloc::Global;
 use wot_json::Bytes;
 
-/// By less than this many milliseconds the moment grows with each event.
+/// The moment grows with each event by fewer milliseconds than this.
 const LONGEST_PAUSE: u64 = 500;
 
-/// How many choices are drawn from.
+/// The number of choices that are drawn from.
 const CHOICES: u64 = 8;
 
-/// How many hosts send datagrams.
+/// The number of hosts that send datagrams.
 const HOSTS: u64 = 4;
 
 /// Their port, which is CoAP's (RFC 7252, section 6.1).
 const PORT: u16 = 5683;
 
-/// How many message IDs there are (RFC 7252, section 3).
+/// The number of message IDs (RFC 7252, section 3).
 const IDS: u32 = 65_536;
 
-/// What the storm has come to.
+/// The state of the storm.
 #[derive(Drop)]
 pub struct Storm {
     /// The generator's number.
     pub number: u64,
     /// The moment of the last event, or 0.
     pub moment: u64,
-    /// The datagrams that came, repeats among them.
+    /// The datagrams that came, duplicates among them.
     pub datagrams: Datagrams,
     /// All events so far.
     pub events: Events,
@@ -53,6 +53,7 @@ pub fn storm_events(alloc: Global, seed: u32, count: u32) -> Result<Events, NoMe
         datagrams: Datagrams::new(alloc),
         events: Events::new(alloc),
     };
+    // Run on a state that is lent, because a function that owned it would give it up at each `?`.
     storm.run(alloc, seed, count)?;
     let Storm { events, .. } = storm;
     Ok(events)
@@ -129,7 +130,7 @@ fn event_of(
     }
 }
 
-/// What comes at a moment, with its bytes.
+/// The event of a moment, with its bytes.
 fn with_bytes(moment: u64, what: What, bytes: Bytes) -> EventWithBytes
     ensures { result ≡ record { event = record { moment = moment; what = what }; bytes = bytes } }
 {

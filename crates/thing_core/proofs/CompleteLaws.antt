@@ -32,7 +32,7 @@ use Rattle.thing_core.proofs.Handed.{InputsHave, handed_have}
 
 -- ---- answers in kind
 
--- what follows some calls is answered in kind too
+-- calls that follow others are answered in kind too
 rest_in_kind : (first rest : List HandlerCall) (p : Placed) → AnswersInKind (first ++ rest) p → AnswersInKind rest p
 rest_in_kind [] rest p h = h
 rest_in_kind (answered turn ∷ first) rest p h = rest_in_kind first rest p h.1
@@ -46,7 +46,7 @@ inputs_rest : (first rest : List HandlerCall) (is : List Input) → InputsHave (
 inputs_rest first rest [] all = tt
 inputs_rest first rest (i ∷ is) all = (rest_in_kind first rest i.affordance all.0, inputs_rest first rest is all.1)
 
--- what comes of a call is an answer in kind, or none
+-- the result of a call is an answer in kind, or none
 abbrev CalledInKind : Placed → CallKind → Called → Type 0
 CalledInKind p what no_number = Unit {0}
 CalledInKind p what no_memory = Unit {0}
@@ -82,7 +82,7 @@ given_in_kind p (gives (answer.Value tree)) r s mid t first made well (inl given
 given_in_kind p (gives (answer.Value tree)) r s mid t first made well (inr given) after = absurd (given.0 well)
 given_in_kind p (gives a) r s mid t first made well given after = absurd well
 
--- what is seen is no turn
+-- seeing a value is no turn
 turns_stay : (p : Placed) (r : Result Json Outcome) (s t : State) → t ≡ with_value p r s → t.turns ≡ s.turns
 turns_stay p (Ok value) s t e = ap (λ (x : State). x.turns) e
 turns_stay p (Err o) s t e = ap (λ (x : State). x.turns) e

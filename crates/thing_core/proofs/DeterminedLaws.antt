@@ -208,7 +208,7 @@ read_determined answers p c s a b calls more t u k l on_calls on_more well_a wel
 
 -- ---- writes
 
--- what was written is seen, and then another move
+-- a value that was written is seen, and then another move
 sees_determined : (answers : ℕ → Answer) (i : Input) (F : Done → Move) (m : State) → ((n : State) → Determined answers HadMemory F n)
     → Determined answers HadMemory (λ done. Then (SeesWritten i) (F done)) m
 sees_determined answers i F m further a b calls more t u k l on_calls on_more well_a well_b =
@@ -315,7 +315,7 @@ act_determined answers (waits p) q is s = answer_determined answers _ s
 
 -- ---- refusals
 
--- whether a verb is the one at this place of their order
+-- a verb is the one at this place of their order
 abbrev is_at : ℕ → Verb → Bool
 is_at n verb.Get = n == 0
 is_at n verb.Head = n == 1
@@ -325,12 +325,12 @@ is_at n verb.Patch = n == 4
 is_at n verb.Delete = n == 5
 is_at n verb.Other = n == 6
 
--- whether it is among these
+-- it is among these
 abbrev is_listed : ℕ → List Verb → Bool
 is_listed n [] = false
 is_listed n (v ∷ vs) = is_at n v || is_listed n vs
 
--- what is taken where these are listed
+-- the verbs that are taken where these are listed
 abbrev allow_back : List Verb → Allow
 allow_back vs = record { get = is_listed 0 vs; head = is_listed 1 vs; put = is_listed 2 vs; post = is_listed 3 vs; patch = is_listed 4 vs; delete = is_listed 5 vs }
 

@@ -1,4 +1,4 @@
--- What holds of all affordances of an act holds of those that it hands something in to.
+-- A fact of all affordances of an act holds of those that it hands something in to.
 use Rattle.std.proofs.Common.{◌≡◌, ℕ, List, [], ◌∷◌, ◌++◌, Bool, true, false, cond, refl, subst}
 use Rattle.std.specs.Prelude.{Option, Some, None, option_map, option_and_then, ◌&&◌}
 use Rattle.std.specs.List.{AllByRecursion}
@@ -14,7 +14,7 @@ use Rattle.thing_site.specs.declared.place.Act.TheVariants.{Describes as describ
 use Rattle.thing_site.specs.Refusals.{Input, inputs_of, no_inputs, invoke_inputs, object_inputs, member_inputs, only_input, written_property, unless_read_only}
 use Rattle.thing_core.specs.Performing.{affordances_of_act}
 
--- what a step after another gives came of something
+-- the result of a step after another came of something
 pub came_of : {A B : Type 0} (f : A → Option B) (o : Option A) (b : B) → option_and_then f o ≡ Some b → (a : A) × (o ≡ Some a) × (f a ≡ Some b)
 came_of f None b e = absurd cc
 came_of f (Some a) b e = (a, refl, e)

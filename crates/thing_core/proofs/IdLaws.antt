@@ -33,7 +33,7 @@ earlier_id (x ∷ xs) rise (suc i) (suc j) d below within = earlier_id xs rise.1
 
 -- ---- a binary search
 
--- how an invocation compares to the id that is looked for
+-- the order of an invocation and the id that is looked for
 abbrev pub id_order : ℕ → Invocation → Ordering
 id_order id i = nat_cmp i.id id
 
@@ -44,7 +44,7 @@ comparisons_rise : (xs : List Invocation) (id : ℕ) → IdsRise xs → IsNonDec
 comparisons_rise xs id rise = searchable_from_sorted nat_cmp_total (λ (i : Invocation). i.id) xs id
     (λ i d low within. not_lower (get_or xs i d).id (get_or xs (i + 1) d).id (earlier_id xs rise i (i + 1) d (omega arith) within))
 
--- whether it has that id
+-- it has that id
 test_of : (x id : ℕ) (o : Ordering) → nat_cmp x id ≡ o → (x == id) ≡ is_eq o
 test_of x id o is = unsigned_ties x id ∙ ap is_eq is
 

@@ -61,7 +61,7 @@ oldest_at xs i found =
     let at = position-Some (λ (x : Invocation). not (is_running x)) xs i any found in
     (at.0, removed_oldest any xs i at.0 at.1 at.2)
 
--- how many run, as std counts them
+-- the number of those that run, as std counts them
 one_more : (x : Invocation) (xs : List Invocation) → running_count (x ∷ xs) ≡ cond (is_running x) 1 0 + running_count xs
 one_more x xs = by_test (is_running x)
   where

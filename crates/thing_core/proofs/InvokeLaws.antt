@@ -123,7 +123,7 @@ next_segment [] i s e = absurd cc
 next_segment (x ∷ path) zero s e = ap (λ (y : List ℕ). y ∷ path) (same_Some x s e)
 next_segment (x ∷ path) (suc i) s e = next_segment path i s e ∙ (let n : suc (i + 1) ≡ suc i + 1 = omega arith in ap (λ (k : ℕ). s ∷ drop k (x ∷ path)) n)
 
--- what an answer to an invocation brought about is said at the state after the call, whose next id is that before it
+-- the effect of an answer to an invocation is said at the state after the call, whose next id is that before it
 pub invoked_after : (p : Placed) (path place : List (List ℕ)) (inputs : List Input) (handed : Option Tree) (a : Answer) (o : Outcome) (c d e : Course) (x y : List Seen) → IsHandedIn inputs handed
     → MakesCall p.slot (call.Invoke c.state.next_invocation handed) (gives a) c d x y → place ≡ place_of_invocation path c.state.next_invocation → SettlesInvocation p place a o d e
     → MakesDone (Invokes p path inputs) o c e x y

@@ -64,7 +64,7 @@ read_done p q called r o c d e a b k given sees pending is =
 
 -- ---- several
 
--- what follows a value that was given among others, or wasn't
+-- the move after a value that was given among others, or wasn't
 abbrev pub AfterValue : Placed → List Placed → List (List ℕ × Json) → Done → Result Json Outcome → Move
 AfterValue p ps got done r =
     elim r as (λ _. Move) [

@@ -100,7 +100,7 @@ none_stands a act e none = (
   ),
 )
 
--- what the code found at the path is what is there
+-- the place that the code found at the path is the one that is there
 pub is_there : (a : Asked) (invocations : List Invocation) (place : Place) → a.state.invocations ≡ invocations → Some place ≡ place_of a.request.path a.site invocations → place_asked a ≡ Some place
 is_there a invocations place same found = ap (λ (i : List Invocation). place_of a.request.path a.site i) same ∙ sym found
 

@@ -1,4 +1,4 @@
--- What is left of a round of polls.
+-- The events that are left of a round of polls.
 use Rattle.std.proofs.Common.{◌≡◌, ℕ, zero, suc, ◌+◌, ◌<◌, ◌≤◌, List, [], ◌∷◌, ◌++◌, map, drop, get_or, length, length-append, refl, sym, ap, subst, ◌∙◌, arith, append_assoc}
 use Rattle.std.specs.Prelude.{Bool, true, false, slice_get, Some}
 use Rattle.std.proofs.lemmas.List.{append-nil, at_drop_all, at_drop_more}
@@ -21,7 +21,7 @@ pub from_beginning : (things : List ExposedThing) → events_from 0 things ≡ e
 from_beginning [] = refl
 from_beginning (t ∷ things) = refl
 
--- what is left begins with the Thing at which the round stands
+-- those that are left begin with the Thing at which the round stands
 pub left_at : (things : List ExposedThing) (i a : ℕ) (t : ExposedThing) → i < length things → t ≡ get_or things i t
     → events_from a (drop i things) ≡ events_among (drop a t.affordances) ++ events_of (drop (i + 1) things)
 left_at things i a t within at =
@@ -121,7 +121,7 @@ poll_made site p c d before after none k =
       };
     }
 
--- what one ask of a round keeps: as many last values
+-- one ask of a round keeps as many last values
 pub round_keeps : (c d : Course) (before after : List Seen) (P : Placed → Type 0) (b : Bool) → (b ≡ true → (p : Placed) × P p × PollsSome (p ∷ []) c d before after)
     → (b ≡ false → d ≡ c) → length d.state.last ≡ length c.state.last
 round_keeps c d before after P true one none =

@@ -81,7 +81,7 @@ in_thing_stands P k path site p all e =
 
 -- ---- places and acts
 
--- what holds of all affordances of a site holds of what a place is about
+-- a fact of all affordances of a site holds of those of a place
 abbrev HasAll : (Placed → Type 0) → Place → Type 0
 HasAll P (description thing) = AllByRecursion P thing.affordances
 HasAll P (all_properties thing) = AllByRecursion P thing.affordances
@@ -154,7 +154,7 @@ place_stands P s (action p) found below e = is_there P s (action p) found below 
 place_stands P s (event p) found below e = is_there P s (event p) found below e
 place_stands P s (subscribed p) found below e = is_there P s (subscribed p) found below e
 
--- what holds of the affordances of an act, and what it asks of the state, but for room for a further invocation
+-- a fact of the affordances of an act, and its demands on the state, but for room for a further invocation
 abbrev ActStands : (Placed → Type 0) → State → Act → Type 0
 ActStands P s (queries p id) = AllByRecursion P (p ∷ []) × IsSome (invocation_named p.slot id s.invocations)
 ActStands P s (cancels p id) = AllByRecursion P (p ∷ []) × IsSome (invocation_named p.slot id s.invocations)
@@ -207,7 +207,7 @@ slots_of P s (queries p id) stands = stands.0
 slots_of P s (cancels p id) stands = stands.0
 slots_of P s act stands = stands
 
--- what holds of all affordances of a site holds of those of what is asked for
+-- a fact of all affordances of a site holds of those of the act that is asked for
 pub asked_have : (P : Placed → Type 0) (a : Asked) (act : Act) → SiteHas P a.site → act_asked a ≡ Some act → AllByRecursion P (affordances_of_act act)
 asked_have P a act all e = slots_of P a.state act (asked_stands P a act all e)
 

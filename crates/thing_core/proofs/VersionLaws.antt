@@ -1,4 +1,4 @@
--- What versions promise over runs.
+-- The promises of versions over runs.
 use Rattle.std.proofs.Common.{◌≡◌, ℕ, zero, suc, ◌+◌, ◌≤◌, List, [], ◌∷◌, map, Bool, true, false, cond, refl, sym, ap, subst, ◌∙◌, arith, inl, inr}
 use Rattle.std.specs.Prelude.{◌==◌, ◌||◌, not, nat_eq, Result, Ok, Err, Option, Some, None, option_map, IsSome}
 use Rattle.std.specs.List.{AllByRecursion}

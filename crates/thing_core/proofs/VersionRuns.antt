@@ -60,7 +60,7 @@ no_texts : (o : Option Version) → o ≡ option_map (after_texts []) o
 no_texts None = refl
 no_texts (Some v) = refl
 
--- what is seen of one property leaves the others
+-- a text that is seen of one property leaves the others
 abbrev OneSeen : List ℕ → ℕ → Version → List Version → List Version → Type 0
 OneSeen text slot v vs new = (texts : List (List ℕ)) × (version_in slot new ≡ option_map (after_texts texts) (version_in slot (v ∷ vs)))
 
@@ -111,7 +111,7 @@ within_by s t vs turns w = record {
   turns = subst (λ (n : ℕ). n ≤ most_turns) (sym turns) w.turns;
 }
 
--- what neither is a turn nor sees a text
+-- a step that neither is a turn nor sees a text
 grows_by : (s t : State) → t.versions ≡ s.versions → t.turns ≡ s.turns → Grows s t
 grows_by s t vs turns = record {
   sees = λ slot. ([], ap (version_in slot) vs ∙ no_texts (version_in slot s.versions));

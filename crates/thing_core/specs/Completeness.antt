@@ -54,8 +54,8 @@ AnswersInKind (missed slot ∷ calls) p = AnswersInKind calls p
 abbrev pub IsContent : Outcome → Type 0
 IsContent o = (text : List ℕ) × (o ≡ outcome.Content text None)
 
--- one property was read, and judged by some version: its value with that version, or its sender has it, or it isn't what
--- the request asks for
+-- one property was read, and judged by some version: its value with that version, or its sender has it, or it isn't
+-- what the request asks for
 abbrev pub IsRead : Conditions → Outcome → Type 0
 IsRead c o = (version : ℕ) × (text : List ℕ) × (o ≡ read_outcome c version text)
 

@@ -1,4 +1,4 @@
--- What contracts see of what changes in a run, and how the logic keeps it.
+-- The view that contracts have of the state of a run, and its codes, as the kit asks in an `impl Model`.
 use Rattle.std.specs.Prelude.{◌≡◌, ◌≤◌, ◌<◌, ℕ, List, length, Option, Some, None, refl}
 use Rattle.std.specs.Coded.{Coded, code_by, coded×, coded_ℕ, coded_list, coded_option}
 use Rattle.thing_core.specs.declared.state.Progress.{Progress}
@@ -33,7 +33,7 @@ FitsValue (Some text) = length text ≤ longest_value
 abbrev pub HasRoom : State → Type 0
 HasRoom s = (slot : ℕ) → version_of slot s.versions < s.turns
 
--- ---- how the logic keeps these
+-- ---- codes, as the kit asks in an `impl Model`
 
 abbrev status_parts : Status → Option (Option (List ℕ))
 status_parts running = None

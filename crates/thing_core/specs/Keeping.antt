@@ -1,4 +1,4 @@
--- What always holds of how the code keeps what changes in a run.
+-- The invariants of the state that code keeps in a run.
 use Rattle.std.specs.Prelude.{◌≡◌, ◌≤◌, ◌+◌, ℕ, vec_len, vec_capacity}
 use Rattle.std.specs.VecDeque.{deque_capacity}
 use Rattle.thing_core.specs.State.{most_invocations, version_of}
@@ -6,8 +6,9 @@ use Rattle.thing_core.specs.Ids.{AreCounted}
 use Rattle.thing_core.specs.Thing.{most_turns}
 use Rattle.thing_core.specs.declared.machine.Machine.TheInside.{Inside}
 
--- the run has no more turns than it may, and each id that was used one of them; a version counts turns of its property;
--- the ids of invocations rise, and are below the next; each invocation and each further one that may come has a room; and all places were taken
+-- the run has no more turns than it may, and each id that was used is one of them; a version counts turns of its
+-- property; the ids of invocations rise, and are below the next; each invocation and each further one that may come has
+-- a room; and all places were taken
 pub record IsKept (m : Inside) : Type 0 where
   pub turns : m.turns ≤ most_turns
   pub ids : m.next_invocation ≤ m.turns + 1

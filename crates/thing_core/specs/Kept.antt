@@ -1,4 +1,4 @@
--- What contracts see of Things that are exposed.
+-- The view that contracts have of exposed Things.
 use Rattle.std.specs.Prelude.{ℕ, List, refl}
 use Rattle.std.specs.Coded.{Coded, code_by, coded×, coded_ℕ, coded_list}
 use Rattle.thing_site.specs.Site.{Site}
@@ -12,7 +12,7 @@ pub record Kept : Type 0 where
   pub state : State
   pub pending : List ℕ
 
--- ---- how the logic keeps these
+-- ---- codes, as the kit asks in an `impl Model`
 
 abbrev KeptParts : Type 0
 KeptParts = Site × (State × List ℕ)

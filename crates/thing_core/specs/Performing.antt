@@ -1,4 +1,4 @@
--- What performing a request promises: a move of the Thing machine, which the rack shows.
+-- The promise of performing a request: a move of the Thing machine, which the rack shows.
 use Rattle.std.specs.Prelude.{◌≡◌, ◌<◌, ◌≤◌, ◌+◌, ◌⊎◌, ℕ, List, [], ◌∷◌, ◌++◌, map, length, Bool, true, false, Option, Some, None, Result, Ok, Err, codes, nat_lt, IfSome, IsSome, if◌then◌else◌}
 use Rattle.std.specs.List.{AllByRecursion}
 use Rattle.servient_base.specs.Moves.{Makes}
@@ -145,7 +145,7 @@ open_object members = codes "{" ++ members_text (members_of members)
 abbrev pub with_member : List ℕ → List ℕ → List ℕ → List ℕ
 with_member text name value = text ++ (if nat_lt 1 (length text) then codes "," else []) ++ name ++ codes ":" ++ value
 
--- how many bytes an object has room in that has these properties with the longest values
+-- the most bytes of an object that has these properties with the longest values
 abbrev pub room_of_all : List Placed → ℕ
 room_of_all [] = 2
 room_of_all (p ∷ ps) = room_of_all ps + (length (json_string p.affordance.name) + (longest_value + 2))
@@ -166,7 +166,7 @@ abbrev pub is_done : Called → Bool
 is_done (gives answer.Done) = true
 is_done called = false
 
--- what an observable property emits when this text is written to it
+-- the emissions of an observable property when this text is written to it
 abbrev pub emissions_of_text : Placed → List ℕ → List Emission
 emissions_of_text p text = if p.affordance.observable then record { target = p.slot; text = text } ∷ [] else []
 
@@ -205,7 +205,7 @@ abbrev pub OutputComesTo : Option Json → Option Tree → Outcome → Type 0
 OutputComesTo schema None o = o ≡ outcome.Changed
 OutputComesTo schema (Some tree) o = Decides (IsTaken schema (json_of tree)) (outcome.Output (text_of (json_of tree))) outcome.BadAnswer o
 
--- what an answer brought about, while the emissions stay as they were
+-- the effect of an answer, while the emissions stay as they were
 abbrev pub SettlesInvocation : Placed → List (List ℕ) → Answer → Outcome → Course → Course → Type 0
 SettlesInvocation p place answer o old new =
     ((path : List (List ℕ)) → place ≡ place_of_invocation path old.state.next_invocation
@@ -224,8 +224,8 @@ IsTold found id (Ok o) =
     (i : Invocation) × (output : Option (List ℕ)) × (found ≡ Some i) × (i.status ≡ completed output) × (o ≡ outcome.Content (status_text id (completed output)) None)
 IsTold found id (Err room) = IfSome found (λ i. i.status ≡ running) × (room ≡ [])
 
--- what an act asks of the state: the invocation that it is about is there, and where it begins
--- one, a further one may run
+-- the demands of an act on the state: the invocation that it is about is there, and where it begins one, a further one
+-- may run
 abbrev pub MayBeDone : Act → State → Type 0
 MayBeDone (act.Invokes p) s = running_count s.invocations < most_invocations
 MayBeDone (act.Queries p id) s = IsSome (invocation_named p.slot id s.invocations)
@@ -234,7 +234,7 @@ MayBeDone act s = Unit {0}
 
 -- ---- the outcome of a call
 
--- what a request did: a move of the Thing machine; its emissions wait to be handed out
+-- a request was performed: a move of the Thing machine; its emissions wait to be handed out
 pub record MakesAct (old new : Kept) (q : PlainRequest) (o : Outcome) (before after : List Seen) : Type 0 where
   pub done : Done
   pub outcome : done.outcome ≡ o
@@ -242,7 +242,7 @@ pub record MakesAct (old new : Kept) (q : PlainRequest) (o : Outcome) (before af
   pub site : new.site ≡ old.site
   pub made : Makes RackShows (Acts old.site q done) old.state new.state before after
 
--- what polling all events did: a move of the Thing machine; its emissions wait to be handed out
+-- all events were polled: a move of the Thing machine; its emissions wait to be handed out
 pub record MakesPolls (old new : Kept) (before after : List Seen) : Type 0 where
   pub emissions : List Emission
   pub pending : new.pending ≡ map (λ e. e.target) emissions

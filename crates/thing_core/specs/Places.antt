@@ -1,4 +1,4 @@
--- What the path of a request leads to.
+-- The place of a request's path.
 use Rattle.std.specs.Prelude.{ℕ, List, Option, Some, option_map, option_and_then}
 use Rattle.thing_ops.specs.Routes.{route_of}
 use Rattle.thing_site.specs.Site.{Site}
@@ -12,10 +12,10 @@ abbrev pub where_stands : List Invocation → Place → Option Place
 where_stands invocations (place.Invocation p id) = option_map (λ _. place.Invocation p id) (invocation_named p.slot id invocations)
 where_stands invocations place = Some place
 
--- what a path leads to, where there are these invocations
+-- the place of a path, where there are these invocations
 abbrev pub place_of : List (List ℕ) → Site → List Invocation → Option Place
 place_of path site invocations = option_and_then (where_stands invocations) (place_at (route_of path) path site)
 
--- what the own path of an observable property or an event means: the slot of its affordance
+-- the target of the own path of an observable property or an event: the slot of its affordance
 abbrev pub target_of : List (List ℕ) → Site → List Invocation → Option ℕ
 target_of path site invocations = target_at (place_of path site invocations)

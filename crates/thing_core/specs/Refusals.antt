@@ -1,4 +1,4 @@
--- Why a request is refused before any handler is called.
+-- The refusals of a request before any handler is called.
 use Rattle.std.specs.Prelude.{◌≡◌, ◌≤◌, List, [], ◌∷◌, ◌++◌, Option, None, option_and_then, IsTrue}
 use Rattle.thing_ops.specs.declared.outcome.Outcome.{Outcome}
 use Rattle.thing_ops.specs.declared.outcome.Outcome.TheVariants as outcome
@@ -52,7 +52,7 @@ refusals_of_acts = refusals_by_request ++ condition_failed ∷ no_invocation_lef
 abbrev pub refusals : List Refusal
 refusals = nothing_there ∷ verb_not_taken ∷ refusals_of_acts
 
--- when each of them holds of an act that is asked for
+-- each of them holds of an act that is asked for
 abbrev pub StandsAgainst : Refusal → Act → State → PlainRequest → Type 0
 -- a property would be written that isn't of a version that the request asks for
 StandsAgainst condition_failed act s q = HasFailedCondition s q.conditions act
@@ -60,11 +60,11 @@ StandsAgainst condition_failed act s q = HasFailedCondition s q.conditions act
 StandsAgainst no_invocation_left act s q = HasNoInvocationLeft s act
 StandsAgainst r act s q = StandsByRequest r act q
 
--- when each of them holds
+-- each of them holds
 abbrev pub Stands : Refusal → Asked → Type 0
 -- there is nothing at the path
 Stands nothing_there a = place_asked a ≡ None
--- what is there doesn't take the verb
+-- the place doesn't take the verb
 Stands verb_not_taken a = act_asked a ≡ None
 Stands r a = Holding (λ act. StandsAgainst r act a.state a.request) (act_asked a)
 
@@ -72,7 +72,7 @@ Stands r a = Holding (λ act. StandsAgainst r act a.state a.request) (act_asked 
 abbrev pub ListsVerbs : Allow → Asked → Type 0
 ListsVerbs allow a = Holding (λ place. verbs_in allow ≡ verbs_of (route_of a.request.path) (flags_of place)) (place_asked a)
 
--- what each of them is answered with
+-- the answer to each of them
 abbrev pub IsAnsweredWith : Refusal → Asked → Outcome → Type 0
 IsAnsweredWith nothing_there a o = o ≡ outcome.NotFound
 IsAnsweredWith verb_not_taken a o = (allow : Allow) × ListsVerbs allow a × (o ≡ outcome.NotAllowed allow)

@@ -52,7 +52,7 @@ IsLater v w = (v.number ≤ w.number) × (w.number ≡ v.number → w ≡ v)
 abbrev pub VersionsSeeTexts : Site → Type 0
 VersionsSeeTexts site = (deeds : List Deed) (s t : State) (seen : List HandlerCall) → DoesAll site deeds s seen t → (slot : ℕ) → SeesTexts slot s t
 
--- how many of these texts differ from the one that was seen before
+-- the number of these texts that differ from the one that was seen before
 abbrev pub changes : List (List ℕ) → Version → ℕ
 changes [] v = 0
 changes (text ∷ texts) v = (if is_last_seen text v then 0 else 1) + changes texts (after_text text v)

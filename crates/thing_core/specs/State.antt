@@ -18,7 +18,7 @@ pub record Invocation : Type 0 where
   pub slot : ℕ
   pub status : Status
 
--- how many invocations may run at a time, and be there at a time, running and completed together
+-- the most invocations that may run at a time, and be there at a time, running and completed together
 abbrev pub most_invocations : ℕ
 most_invocations = 64
 

@@ -1,6 +1,6 @@
--- The Thing machine: what a request to Things does and its outcome, and what polling their events does, as moves over a
--- state (servient_base/specs/Moves.antt). What is seen of a move are the calls of device handlers: those that were
--- answered, which are turns, and those for which a handler was out of memory.
+-- The Thing machine: requests to Things with their outcomes, and polls of their events, as moves over a state
+-- (servient_base/specs/Moves.antt). The trace of a move has the calls of device handlers: those that were answered,
+-- which are turns, and those for which a handler was out of memory.
 use Rattle.std.specs.Prelude.{◌≡◌, ◌<◌, ◌≤◌, ◌+◌, ◌⊎◌, ℕ, List, [], ◌∷◌, ◌++◌, length, decimal, Bool, not, Option, Some, None, Result, Ok, Err, if◌then◌else◌}
 use Rattle.std.specs.List.{filter}
 use Rattle.servient_base.specs.Moves.{Becomes, Stays, Then, Passing}
@@ -40,11 +40,11 @@ only o = record { outcome = o; emissions = [] }
 
 -- ---- one call of a handler
 
--- how many turns a run may have
+-- the most turns that a run may have
 abbrev pub most_turns : ℕ
 most_turns = 4294967295
 
--- what comes of it: the run has no number left for a turn, the handler is out of memory, or it answers
+-- the result of it: the run has no number left for a turn, the handler is out of memory, or it answers
 pub data Called : Type 0 where
   no_number no_memory : Called
   gives : Answer → Called
@@ -95,8 +95,8 @@ abbrev pub ReadsValue : Placed → Result Json Outcome → Move
 ReadsValue p r =
     Passing (Calls p.slot call.Read) (λ called s seen t. GivesValue p.affordance.output called r × Becomes (with_value p r s) [] seen t)
 
--- What a read comes to of one property that has this version, with this text: its value, unless the version isn't what
--- the request asks for, or its sender has that version (RFC 9110, sections 13.1.1 to 13.2.2; RFC 7252, section 5.10.6.2).
+-- The outcome of reading one property at this version, with this text: its value, unless the version isn't what the
+-- request asks for, or its sender has that version (RFC 9110, sections 13.1.1 to 13.2.2; RFC 7252, section 5.10.6.2).
 abbrev pub read_outcome : Conditions → ℕ → List ℕ → Outcome
 read_outcome c version text =
     if fails c version then outcome.PreconditionFailed
@@ -129,7 +129,7 @@ ReadsEach (p ∷ ps) got done s seen t =
       | Err o ↦ λ u after v. (done ≡ only o) × Stays u after v
     ]) s seen t
 
--- what is emitted becomes the last value of its affordance
+-- an emission becomes the last value of its affordance
 abbrev pub Emits : List Emission → Move
 Emits emissions s = Becomes (record s { last = last_after emissions s.last }) []
 
@@ -140,7 +140,7 @@ emission p value = record { target = p.slot; text = text_of value }
 abbrev pub emissions_of_write : Input → List Emission
 emissions_of_write i = if i.affordance.affordance.observable then emission i.affordance i.value ∷ [] else []
 
--- what was written is seen, and is emitted where the property is observable
+-- a value that was written is seen, and is emitted where the property is observable
 abbrev pub SeesWritten : Input → Move
 SeesWritten i s =
     Becomes (record s {
@@ -157,8 +157,8 @@ abbrev pub IfDone : Called → Move → Move → Move
 IfDone (gives answer.Done) further otherwise = further
 IfDone called further otherwise = otherwise
 
--- several values are written, one after another, until one isn't done; with what was emitted so far. What was
--- written stays and was emitted.
+-- several values are written, one after another, until one isn't done; with what was emitted so far. Those that were
+-- written stay and were emitted.
 abbrev pub WritesEach : List Input → List Emission → Done → Move
 WritesEach [] emitted done s seen t = Stops outcome.Changed emitted done s seen t
 WritesEach (i ∷ inputs) emitted done s seen t =
@@ -185,7 +185,7 @@ with_invocations invocations s = record s { invocations = invocations }
 abbrev pub place_of_invocation : List (List ℕ) → ℕ → List (List ℕ)
 place_of_invocation path id = path ++ decimal id ∷ []
 
--- what the answer to an invocation of this id brings about
+-- the effect of the answer to an invocation of this id
 abbrev pub IsInvoked : Placed → List (List ℕ) → ℕ → Done → Called → Move
 IsInvoked p path id done (gives answer.Started) s seen t =
     (done ≡ only (outcome.Started (place_of_invocation path id) (status_text id running)))
@@ -215,7 +215,7 @@ Completes id output done s seen t =
 abbrev pub Fails : Called → Done → Move
 Fails called done s seen t = (done ≡ only (failure_of called)) × Stays s seen t
 
--- what the answer to a query brings about; where it is no success the invocation is as it was
+-- the effect of the answer to a query; where it is no success the invocation is as it was
 abbrev pub IsQueried : Placed → ℕ → Done → Called → Move
 IsQueried p id done (gives answer.Running) s seen t = Tells id running done s seen t
 IsQueried p id done (gives (answer.Finished None)) s seen t = Completes id None done s seen t
@@ -240,7 +240,7 @@ abbrev pub Cancels : Placed → ℕ → Status → Done → Move
 Cancels p id running done s seen t = Passing (Calls p.slot (call.Cancel id)) (IsCancelled id done) s seen t
 Cancels p id (completed output) done s seen t = Removes id done s seen t
 
--- what is done to an invocation depends on its status
+-- the status of an invocation decides what is done to it
 abbrev pub OnInvocation : Placed → ℕ → (Status → Done → Move) → Done → Move
 OnInvocation p id ByStatus done s seen t =
     (i : Invocation) × (invocation_named p.slot id s.invocations ≡ Some i) × ByStatus i.status done s seen t
@@ -256,7 +256,7 @@ event_outcome (Some text) = outcome.Content text None
 abbrev pub Answers : Outcome → Done → Move
 Answers o done s seen t = (done ≡ only o) × Stays s seen t
 
--- What each act does, with these inputs: the table of acts.
+-- The effect of each act, with these inputs: the table of acts.
 abbrev pub Performs : Act → PlainRequest → List Input → Done → Move
 Performs (act.Describes thing) q inputs done s seen t = Answers (outcome.Description (text_of thing.description) q.accept.td) done s seen t
 Performs (act.ReadsAll thing) q inputs done s seen t = ReadsEach (readable thing) [] done s seen t
@@ -283,7 +283,7 @@ pub data Acts (site : Site) (q : PlainRequest) (done : Done) (s : State) (seen :
 
 -- ---- polls
 
--- what the answer to a poll emits: a value that is taken
+-- the emission of the answer to a poll: a value that is taken
 abbrev pub IsPolled : Placed → List Emission → Called → Type 0
 IsPolled p emissions (gives (answer.Fired tree)) = Decides (IsTaken p.affordance.output (json_of tree)) (emission p (json_of tree) ∷ []) [] emissions
 IsPolled p emissions called = emissions ≡ []

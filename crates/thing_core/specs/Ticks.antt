@@ -7,7 +7,7 @@ use Rattle.thing_site.specs.Site.{Placed, Site, events_of}
 use Rattle.thing_core.specs.State.{State, Emission}
 use Rattle.thing_core.specs.Thing.{PollsEvent, Polls}
 
--- what is seen of polls whose emissions are handed out: calls of handlers, and the emissions as they are handed out
+-- a trace of polls whose emissions are handed out: calls of handlers, and the emissions as they are handed out
 pub data TickSeen : Type 0 where
   calls : HandlerCall → TickSeen
   hands_out : Emission → TickSeen

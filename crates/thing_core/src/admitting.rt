@@ -29,6 +29,7 @@ pub fn admitted<'a>(
 ) -> Result<Task<'a>, Outcome>
     ensures { IsAdmitted (record { site = things.now; state = machine.now.state; request = plain_request request.now }) result }
 {
+    // Matches and not `?`, since the proof of each refusal names its arm.
     let place = match place_of(things, machine.invocations(), &request.path) {
         Some(place) => place,
         None => return Err(Outcome::NotFound),
@@ -47,8 +48,8 @@ pub fn admitted<'a>(
     }
 }
 
-/// The refusal of an act as things stand: a property would be written that isn't of a version that the request asks for,
-/// or an action would be invoked, and no further invocation may run.
+/// The refusal of an act as things stand: a property would be written that isn't of a version that the request asks
+/// for, or an action would be invoked, and no further invocation may run.
 fn refusal_by_state(act: &Act<'_>, machine: &Machine, conditions: &Conditions) -> Option<Outcome>
     ensures { MatchOption result
         ((¬ (refusal.HasFailedCondition machine.now.state conditions.now act.now)) × (¬ (refusal.HasNoInvocationLeft machine.now.state act.now)))

@@ -1,4 +1,5 @@
-//! Calls of handlers: an answer, or the outcome of the request; and what an answer that is no success means, said once.
+//! Calls of handlers: an answer, or the outcome of the request; and the outcome of an answer that is no success, said
+//! once.
 
 ghost use Rattle.std.specs.Prelude.{◌≡◌, ◌<◌, length, true, false, MatchOption};
 ghost use Rattle.wot_json.specs.Json.{json_text};
@@ -71,7 +72,8 @@ pub fn fired(answer: Answer) -> Option<Tree>
     }
 }
 
-/// The text of a value of a device, where the value is taken.
+/// The text of a value of a device, where the value is taken. The room is lent, so that no memory is taken after a
+/// call.
 pub fn taken_text<'a>(
     schema: &Option<Schema>,
     value: &Tree,

@@ -10,7 +10,8 @@ use crate::state::Latest;
 use std::alloc::Global;
 use thing_site::{HeldThing, Spot, is_emitter};
 
-/// What may emit, with no value yet: each observable property and each event, in the order of Things and affordances.
+/// The affordances that may emit, with no value yet: each observable property and each event, in the order of Things
+/// and affordances.
 pub fn silent_all(alloc: Global, things: &[HeldThing]) -> Result<Vec<Latest>, NoMemory>
     ensures { IfOk result (λ last. last.items ≡ map silent (emitters_of things.now)) }
 {
@@ -26,6 +27,7 @@ fn push_silent(alloc: Global, last: &mut Vec<Latest>, thing: &HeldThing) -> Resu
     ensures { OnOk result (last.new.items ≡ last.old.items ++ map silent (emitters_of_thing thing.now)) }
 {
     for index in 0..thing.len() {
+        // A match and not `let .. else`, since the proof needs that there is no such affordance.
         let spot = match thing.spot(index) {
             Some(spot) => spot,
             None => return Ok(()),

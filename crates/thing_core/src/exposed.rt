@@ -52,7 +52,7 @@ impl Model for Exposed {
     ghost invariant = { λ e. length e.machine.state.last ≡ length (emitters_of e.things) };
 }
 
-/// How much the machine has done and keeps.
+/// The counts of turns and invocations.
 #[derive(Clone, Copy, Debug, PartialEq, Eq, Drop)]
 pub struct Accounts {
     /// The turns of the run.
@@ -104,7 +104,7 @@ impl Exposed {
         requires pending { self.old.pending ≡ [] }
         ensures { MakesPolls self.old self.new (R.slots rack.old) (R.slots rack.new) }
     {
-        // For the proof: there is room for as many emissions as there are emitters.
+        // Read so that the proof knows: there is room for as many emissions as there are emitters.
         let _room = self.machine.emitters();
         poll_all(self.things.as_slice(), &mut self.machine, rack);
     }
@@ -116,7 +116,7 @@ impl Exposed {
         requires pending { self.old.pending ≡ [] }
         ensures { PollsNext result round.old round.new self.old self.new (R.slots rack.old) (R.slots rack.new) }
     {
-        // For the proof: there is room for as many emissions as there are emitters.
+        // Read so that the proof knows: there is room for as many emissions as there are emitters.
         let _room = self.machine.emitters();
         poll_next(self.things.as_slice(), &mut self.machine, rack, round)
     }
@@ -147,7 +147,7 @@ impl Exposed {
         last_in(self.machine.last(), target)
     }
 
-    /// How much the machine has done and keeps.
+    /// The counts of turns and invocations.
     pub fn accounts(&self) -> Accounts
         ensures calls { result.calls ≡ self.now.state.turns }
         ensures bound { result.calls ≤ most_turns }

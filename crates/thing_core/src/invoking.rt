@@ -110,7 +110,7 @@ fn settle(spot: Spot<'_>, prepared: Prepared, answer: Answer, machine: &mut Mach
     ensures { SettlesInvocation spot.entry prepared.place answer result machine.old machine.new }
 {
     let failed = failure(&answer);
-    // For the proof: what was lent is moved before it is taken apart.
+    // For the proof: an answer that was lent is moved before it is taken apart.
     let given = answer;
     match given {
         Answer::Started => {
@@ -154,7 +154,8 @@ fn finished(mut room: Room, schema: &Option<Schema>, output: Option<Tree>) -> Ou
     }
 }
 
-/// Asks for the status of an invocation.
+/// Asks for the status of an invocation. The room for it is taken before the call, so that an answer takes no more
+/// memory.
 pub fn query<R: Handlers>(
     alloc: Global,
     spot: Spot<'_>,
@@ -220,7 +221,7 @@ fn queried(
     ensures { SettlesQuery spot.entry id answer result machine.old machine.new }
 {
     let failed = failure(&answer);
-    // For the proof: what was lent is moved before it is taken apart.
+    // For the proof: an answer that was lent is moved before it is taken apart.
     let given = answer;
     match given {
         Answer::Running => {

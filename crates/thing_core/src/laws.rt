@@ -1,4 +1,4 @@
-//! What follows from the definitions: contracts of functions that no code needs to call.
+//! Consequences of the definitions: contracts of functions that no code needs to call.
 
 ghost use Rattle.std.specs.Prelude.{◌≡◌, [], List};
 ghost use Rattle.thing_ops.specs.declared.outcome.Outcome.{Outcome};

@@ -1,7 +1,7 @@
-//! Things as they are exposed: what a request to Things does.
+//! Things as they are exposed, and the acts that requests ask of them.
 //!
-//! `Exposed::new` takes the Things of a site (`thing_site`), or says what is against exposing them. `perform`
-//! does what a request asks: it goes through the refusals in their order, and then does the act.
+//! `Exposed::new` takes the Things of a site (`thing_site`), or says what is against exposing them. `perform` goes
+//! through the refusals of a request in their order, and then does the act.
 //!
 //! ```text
 //! let mut slots = Slots::new(alloc);
@@ -13,11 +13,11 @@
 //! ```
 //!
 //! Contracts see the site, which is constant (`Site` of `thing_site`), and the state of the Thing machine
-//! (`specs/State.antt`). The contract in a sentence: what `perform` answers, calls and leaves is a move of that
-//! machine (`Acts` of `specs/Thing.antt`), what `tick` calls and leaves is one of its polls (`Polls`), what `poll_next` does
-//! that of one event, and the rack shows the calls of it. Each property has a version, which counts the texts that were
-//! seen of it; what a request asks of that is judged for one property alone (RFC 9110, section 13). Memory is taken before the first call of a handler, and by
-//! polls never.
+//! (`specs/State.antt`). The contract in a sentence: `perform` makes a move of that machine (`Acts` of
+//! `specs/Thing.antt`), `tick` makes one of its polls (`Polls`), `poll_next` that of one event, and the rack shows the
+//! calls of each. Each property has a version, which counts the texts that were seen of it; the conditions of a request
+//! on it are judged for one property alone (RFC 9110, section 13). Memory is taken before the first call of a handler,
+//! and by polls never.
 #![tactic(auto)]
 
 mod acting;

@@ -33,7 +33,7 @@ pub struct Machine {
     pub(crate) next_invocation: u64,
     /// One for each affordance that may emit.
     last: Vec<Latest>,
-    /// How many turns the run has.
+    /// The number of turns of the run.
     pub(crate) turns: u64,
     pub(crate) pending: VecDeque<Target>,
 }
@@ -125,14 +125,14 @@ impl Machine {
         self.next_invocation
     }
 
-    /// The last value of what may emit.
+    /// The last value of each affordance that may emit.
     pub fn last(&self) -> &[Latest]
         ensures { result.now ≡ self.now.state.last }
     {
         self.last.as_slice()
     }
 
-    /// How many affordances may emit. As many emissions can be kept where none waits to be handed out.
+    /// The number of affordances that may emit. As many emissions can be kept where none waits to be handed out.
     pub fn emitters(&self) -> usize
         ensures count { result ≡ length self.now.state.last }
         ensures room { self.now.pending ≡ [] → result ≤ self.now.room }

@@ -13,7 +13,7 @@ use thing_handler::{CallKind, Handlers};
 use thing_site::{HeldThing, LONGEST_VALUE, Spot, is_kind};
 use wot_terms::Kind;
 
-/// Where a round of polls stands: which affordance comes next, and of which Thing. Contracts see the events that are
+/// The position of a round of polls: the affordance that comes next, and its Thing. Contracts see the events that are
 /// left (`events_left` of specs/Rounds.antt).
 #[derive(Clone, Copy, Debug, PartialEq, Eq, Drop)]
 pub struct Round {
@@ -69,7 +69,7 @@ pub fn poll_next<R: Handlers>(
     }
 }
 
-/// The next event of a round, which then stands behind it.
+/// The next event of a round, which goes on behind it.
 fn next_event<'a>(things: &'a [HeldThing], round: &mut Round) -> Option<Spot<'a>>
     ensures { MatchOption result ((events_left round.old things.now ≡ []) × (events_left round.new things.now ≡ []))
         (λ p. events_left round.old things.now ≡ p ∷ events_left round.new things.now) }
@@ -91,6 +91,7 @@ fn event_from<'a>(thing: &'a HeldThing, number: &mut usize) -> Option<Spot<'a>>
         ≡ p ∷ filter (of_kind kind.Event) (drop number.new thing.now.affordances)) }
 {
     for index in *number..thing.len() {
+        // A match and not `let .. else`, since the proof cites that there is no such affordance.
         let spot = match thing.spot(index) {
             Some(spot) => spot,
             None => return None,

@@ -32,6 +32,7 @@ fn push_unseen(
     ensures { OnOk result (versions.new.items ≡ versions.old.items ++ map unseen (those_of kind.Property thing.now)) }
 {
     for index in 0..thing.len() {
+        // A match and not `let .. else`, since the proof cites that there is no such affordance.
         let spot = match thing.spot(index) {
             Some(spot) => spot,
             None => return Ok(()),

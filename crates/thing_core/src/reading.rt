@@ -18,7 +18,8 @@ use thing_site::{HeldThing, LONGEST_VALUE, Spot};
 use wot_json::{Bytes, Tree};
 use wot_terms::Kind;
 
-/// Reads a property, and judges it by the version that it then has. The room for its text is taken before the call.
+/// Reads a property, and judges it by the version that it then has. The room for its text is taken before the call, so
+/// that an answer takes no more memory.
 pub fn read<R: Handlers>(
     alloc: Global,
     spot: Spot<'_>,
@@ -47,7 +48,7 @@ pub fn read<R: Handlers>(
     }
 }
 
-/// The outcome of reading a property that has this version, with this text, for which there is this room.
+/// The outcome of reading a property at this version, with this text, for which there is this room.
 fn judged(conditions: &Conditions, version: u32, mut room: Vec<u8>, text: &[u8]) -> Outcome
     requires empty { room.items ≡ [] }
     requires room { length text.now ≤ vec_capacity room }
@@ -78,7 +79,7 @@ fn read_value<R: Handlers>(
     match call(machine, rack, spot.slot(), &CallKind::Read) {
         Ok(answer) => {
             let failed = failure(&answer);
-            // For the proof: what was lent is moved before it is taken apart.
+            // For the proof: an answer that was lent is moved before it is taken apart.
             let given = answer;
             match given {
                 Answer::Value(value) => Ok(value),
@@ -196,6 +197,7 @@ fn fields_of(alloc: Global, thing: &HeldThing) -> Result<Vec<Field<'_>>, NoMemor
 {
     let mut fields = Vec::new(alloc);
     for index in 0..thing.len() {
+        // A match and not `let .. else`, since the proof cites that there is no such affordance.
         let spot = match thing.spot(index) {
             Some(spot) => spot,
             None => return Ok(fields),

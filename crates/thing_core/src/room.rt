@@ -8,7 +8,7 @@ use std::alloc::Global;
 use std::marker::Model;
 use wot_json::Bytes;
 
-/// How many bytes a room has: the text of a value, and what else the status of an invocation has.
+/// The number of bytes of a room: the text of a value, and the rest of an invocation's status.
 pub const ROOM_SIZE: usize = 1152;
 
 /// Room for a text of at most `ROOM_SIZE` bytes. Contracts see the text in it. Filling it takes no memory.

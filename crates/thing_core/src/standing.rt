@@ -35,8 +35,8 @@ pub fn place_of<'a>(
     }
 }
 
-/// The invocation of this id under the action in this slot, found by binary search over the ids, which rise; its slot
-/// is compared afterwards.
+/// The invocation of this id under the action in this slot, found by binary search, since the ids rise; its slot is
+/// compared afterwards.
 pub fn invocation_in(invocations: &[Invocation], slot: Slot, id: u32) -> Option<&Invocation>
     requires { IdsRise invocations.now }
     ensures { option_map (λ i. i.now) result ≡ invocation_of slot id invocations.now }

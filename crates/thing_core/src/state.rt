@@ -16,7 +16,7 @@ use thing_handler::Slot;
 /// The most invocations that may run at a time, and be there at a time.
 pub const MOST_INVOCATIONS: usize = 64;
 
-/// The most turns that a run may have.
+/// The most turns that a run may have, so that the ids of invocations and the versions of properties fit in 32 bits.
 pub const MOST_TURNS: u64 = 4_294_967_295;
 
 /// The progress of an invocation.
@@ -138,7 +138,7 @@ pub fn place_by_id(invocations: &[Invocation], id: u32) -> Option<usize>
     }
 }
 
-/// The last value of what may emit.
+/// The last value of an affordance that may emit.
 #[derive(Debug, Drop)]
 pub struct Latest {
     target: Target,

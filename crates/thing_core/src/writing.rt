@@ -15,7 +15,7 @@ use thing_ops::Outcome;
 use thing_site::{Input, Spot};
 
 /// Writes values to properties, one after another, until one isn't done. Room for the emissions is taken before the
-/// first call.
+/// first call, so that each write that is done can be emitted.
 pub fn write_each<R: Handlers>(
     inputs: Vec<Input<'_>>,
     machine: &mut Machine,

@@ -74,7 +74,7 @@ of_slot t = let e : eqb t.slot t.slot ≡ true = eq-eqb t.slot t.slot refl in rw
 pub of_other : (t : RunTurn) (other : ℕ) → other ≢ t.slot → turns_of_slot other (t ∷ []) ≡ []
 of_other t other differs = let f : eqb t.slot other ≡ false = ne_eqb t.slot other (λ e. differs (sym e)) in rw f refl
 
--- what a slot's handler has kept in the end
+-- the turns that a slot's handler has kept in the end
 pub kept_in_slot : (turns : List RunTurn) (from i : ℕ) (before after : List Seen) (x y : Seen) → GrewBy turns from before after → slice_get before i ≡ Some x → slice_get after i ≡ Some y → y.turns ≡ x.turns ++ turns_of_slot (from + i) turns
 kept_in_slot turns from i [] after x y g old new = absurd cc
 kept_in_slot turns from i (h ∷ before) [] x y g old new = absurd g

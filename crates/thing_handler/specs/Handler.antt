@@ -1,4 +1,4 @@
--- What is seen of a handler and of a rack, and what a call does to them.
+-- The view of a handler and of a rack, and the effect of a call on them.
 use Rattle.std.specs.Prelude.{◌≡◌, ℕ, List, [], ◌∷◌, ◌++◌, slice_get, slice_set, Some, Ok, Err, Result}
 use Rattle.std.specs.declared.alloc.AllocError.{AllocError}
 use Rattle.servient_base.specs.Count.{raised}

@@ -1,5 +1,5 @@
--- What the handlers in memory hold and answer. Each table has a row for each call, and a second one says what is held
--- after the call was answered. Where a handler is out of memory, it holds what it held.
+-- The state and the answers of the handlers in memory. Each table has a row for each call, and a second one says the
+-- state after the call was answered. Where a handler is out of memory, it holds what it held.
 use Rattle.std.specs.Prelude.{ℕ, ◌+◌, ◌-◌, ◌/◌, ◌%◌, ◌==◌, nat_le, pos, List, [], ◌∷◌, ◌++◌, drop, Option, Some, None, if◌then◌else◌}
 use Rattle.wot_json.specs.declared.tree.Tree.{Tree}
 use Rattle.wot_json.specs.declared.tree.Tree.TheVariants as json
@@ -17,7 +17,7 @@ use Rattle.thing_handler.specs.Handler.{Seen}
 
 -- ---- cells
 
--- what is seen of a cell
+-- the view of a cell
 abbrev pub cell_seen : Cell → Seen
 cell_seen c = record { kind = Property; turns = c.log.turns.items; misses = c.log.misses }
 
@@ -25,7 +25,7 @@ cell_seen c = record { kind = Property; turns = c.log.turns.items; misses = c.lo
 abbrev pub value_in : Cell → Tree
 value_in c = c.value
 
--- what a cell answers that holds this value
+-- the answer of a cell that holds this value
 abbrev pub cell_answer : Tree → CallKind → Answer
 cell_answer held Read = Value held
 cell_answer held (Write value) = Done
@@ -34,7 +34,7 @@ cell_answer held (Query id) = Refused 0
 cell_answer held (Cancel id) = Refused 0
 cell_answer held Poll = Refused 0
 
--- what it holds then
+-- the value that it holds then
 abbrev pub cell_after : Tree → CallKind → Tree
 cell_after held Read = held
 cell_after held (Write value) = value
@@ -45,7 +45,7 @@ cell_after held Poll = held
 
 -- ---- jobs
 
--- what is seen of a job
+-- the view of a job
 abbrev pub job_seen : Job → Seen
 job_seen j = record { kind = Action; turns = j.log.turns.items; misses = j.log.misses }
 
@@ -73,7 +73,7 @@ abbrev pub queried : ℕ → List Run → List Run
 queried id [] = []
 queried id (r ∷ runs) = if r.id == id then record r { left = r.left - 1 } ∷ runs else r ∷ queried id runs
 
--- what a query finds: the last one of an invocation that it is finished
+-- the answer to a query: the last one of an invocation finds it finished
 abbrev pub query_answer : Option Run → Answer
 query_answer None = Refused 1
 query_answer (Some r) = if nat_le r.left 1 then Finished r.input else Running
@@ -86,7 +86,7 @@ abbrev pub cancel_answer : Option Run → Answer
 cancel_answer None = Refused 1
 cancel_answer (Some r) = Cancelled
 
--- what a job answers whose invocations run for n queries, where these run
+-- the answer of a job whose invocations run for n queries, where these run
 abbrev pub job_answer : ℕ → List Run → CallKind → Answer
 job_answer turns runs Read = Refused 0
 job_answer turns runs (Write value) = Refused 0
@@ -95,7 +95,7 @@ job_answer turns runs (Query id) = query_answer (run_of id runs)
 job_answer turns runs (Cancel id) = cancel_answer (run_of id runs)
 job_answer turns runs Poll = Refused 0
 
--- which invocations run then
+-- the invocations that run then
 abbrev pub job_after : ℕ → List Run → CallKind → List Run
 job_after turns runs Read = runs
 job_after turns runs (Write value) = runs
@@ -106,7 +106,7 @@ job_after turns runs Poll = runs
 
 -- ---- pulses
 
--- what is seen of a pulse
+-- the view of a pulse
 abbrev pub pulse_seen : Pulse → Seen
 pulse_seen p = record { kind = Event; turns = p.log.turns.items; misses = p.log.misses }
 
@@ -114,11 +114,11 @@ pulse_seen p = record { kind = Event; turns = p.log.turns.items; misses = p.log.
 abbrev pub period_of : Pulse → ℕ
 period_of p = p.period
 
--- how many polls a pulse has answered
+-- the number of polls that a pulse has answered
 abbrev pub polls_of : Pulse → ℕ
 polls_of p = p.polls
 
--- what a pulse of this period answers when it has answered n polls: the first multiple of the period fires 1
+-- the answer of a pulse of this period that has answered n polls: the first multiple of the period fires 1
 abbrev pub pulse_answer : ℕ → ℕ → CallKind → Answer
 pulse_answer period polls Read = Refused 0
 pulse_answer period polls (Write value) = Refused 0
@@ -127,7 +127,7 @@ pulse_answer period polls (Query id) = Refused 0
 pulse_answer period polls (Cancel id) = Refused 0
 pulse_answer period polls Poll = if (polls + 1) % period == 0 then Fired (json.Int (pos ((polls + 1) / period))) else Quiet
 
--- how many it has answered then
+-- the number of polls that it has answered then
 abbrev pub pulse_after : ℕ → CallKind → ℕ
 pulse_after polls Read = polls
 pulse_after polls (Write value) = polls

@@ -1,4 +1,4 @@
--- What a turn of a job does to the list of the invocations that run.
+-- The effect of a turn of a job on the list of the invocations that run.
 use Rattle.std.specs.Prelude.{ℕ, zero, suc, ◌≡◌, ◌-◌, ◌<◌, Option, Some, None, List, [], ◌∷◌, ◌++◌, length, slice_get}
 use Rattle.std.specs.List.{remove}
 use Rattle.thing_handler.specs.declared.job.Run.{Run}

@@ -12,7 +12,7 @@ use Rattle.thing_handler.specs.declared.shipped.Shipped.TheVariants as shipped
 use Rattle.thing_handler.specs.Handler.{Seen}
 use Rattle.thing_handler.specs.InMemory.{cell_seen, value_in, cell_answer, cell_after, job_seen, length_of, runs_in, job_answer, job_after, pulse_seen, period_of, polls_of, pulse_answer, pulse_after}
 
--- what a handler in memory holds
+-- the state of a handler in memory
 pub data Device : Type 0 where
   -- the value of a cell
   is_cell : Tree → Device
@@ -26,19 +26,19 @@ device_kind (is_cell held) = kind.Property
 device_kind (is_job turns runs) = kind.Action
 device_kind (is_pulse period polls) = kind.Event
 
--- what it answers
+-- its answer
 abbrev pub device_answer : Device → CallKind → Answer
 device_answer (is_cell held) what = cell_answer held what
 device_answer (is_job turns runs) what = job_answer turns runs what
 device_answer (is_pulse period polls) what = pulse_answer period polls what
 
--- what it holds then
+-- its state then
 abbrev pub device_after : Device → CallKind → Device
 device_after (is_cell held) what = is_cell (cell_after held what)
 device_after (is_job turns runs) what = is_job turns (job_after turns runs what)
 device_after (is_pulse period polls) what = is_pulse period (pulse_after polls what)
 
--- what a shipped handler is seen as, and what it holds
+-- the view of a shipped handler, and its state
 abbrev pub shipped_seen : Shipped → Seen
 shipped_seen (shipped.Cell c) = cell_seen c
 shipped_seen (shipped.Job j) = job_seen j

@@ -59,7 +59,7 @@ GrewBy turns slot (old ∷ before) (new ∷ after) =
 GrewBy turns slot [] (new ∷ after) = ⊥
 GrewBy turns slot (old ∷ before) [] = ⊥
 
--- how often a slot is in a list of slots
+-- the number of times that a slot is in a list of slots
 abbrev pub times : ℕ → List ℕ → ℕ
 times slot [] = 0
 times slot (m ∷ slots) = if m == slot then suc (times slot slots) else times slot slots
@@ -72,8 +72,8 @@ CountMisses misses slot (old ∷ before) (new ∷ after) =
 CountMisses misses slot [] (new ∷ after) = ⊥
 CountMisses misses slot (old ∷ before) [] = ⊥
 
--- What the handlers of a rack show from one time to another: these calls and no others. Each call is one of a handler of
--- the rack, each handler kept its own turns in their order, and each counted the calls that were out of memory.
+-- The handlers of a rack show these calls and no others from one time to another. Each call is one of a handler of the
+-- rack, each handler kept its own turns in their order, and each counted the calls that were out of memory.
 pub record RackShows (before after : List Seen) (calls : List HandlerCall) : Type 0 where
   pub slots : AllByRecursion (λ t. t.slot < length before) (turns_in calls)
   pub missing : AllByRecursion (λ slot. slot < length before) (misses_in calls)

@@ -1,11 +1,11 @@
-//! What a handler is asked, what it answers, and what is known of it.
+//! The calls of a handler, its answers, and the view of it in contracts.
 
 use servient_base::NoMemory;
 use std::alloc::Global;
 use wot_json::Tree;
 use wot_terms::Kind;
 
-/// What a handler is asked.
+/// A call of a handler: the request that it gets.
 #[derive(Debug, Drop)]
 pub enum CallKind {
     /// The value of the property.
@@ -22,7 +22,7 @@ pub enum CallKind {
     Poll,
 }
 
-/// What a handler answers.
+/// An answer of a handler.
 #[derive(Debug, Drop)]
 pub enum Answer {
     /// The value that was asked for.
@@ -79,8 +79,8 @@ pub trait Handler: Drop {
     fn turns(&self) -> &[Turn]
         ensures { result.now ≡ (seen self.now).turns };
 
-    /// Forgets the turns made so far, because a run may go on for ever and memory doesn't. Each device says besides that
-    /// what it answers later is as if it hadn't.
+    /// Forgets the turns made so far, because a run may go on for ever and memory doesn't. Each device says besides
+    /// that its later answers are as if it hadn't.
     fn forget(&mut self)
         ensures { seen self.new ≡ forgotten (seen self.old) };
 }

@@ -19,11 +19,11 @@ pub struct Run {
     pub id: u32,
     /// The input, which is the output in the end.
     pub input: Option<Tree>,
-    /// How many queries are left; the last of them finds it finished.
+    /// The number of queries that are left; the last of them finds it finished.
     pub left: u32,
 }
 
-/// What a turn does to the invocations that run.
+/// The effect of a turn on the invocations that run.
 #[derive(Drop)]
 enum Change {
     Stays,
@@ -60,7 +60,7 @@ impl Job {
         }
     }
 
-    /// The answer to a call, and what it does to the invocations that run; there is room for that then.
+    /// The answer to a call, and its effect on the invocations that run; there is room for that then.
     fn turned(&mut self, alloc: Global, what: &CallKind) -> Result<(Answer, Change), NoMemory>
         ensures answer { IfOk result (λ t. t.0 ≡ job_answer (length_of self.old) (runs_in self.old) what.now) }
         ensures runs { IfOk result (λ t. changed t.1 (runs_in self.old) ≡ job_after (length_of self.old) (runs_in self.old) what.now) }
@@ -113,6 +113,7 @@ fn queried(alloc: Global, runs: &Vec<Run>, id: u32) -> Result<(Answer, Change), 
     ensures runs { IfOk result (λ t. changed t.1 runs.now.items ≡ query_after (run_of id runs.now.items) id runs.now.items) }
     ensures room { IfOk result (λ t. CanBeMade t.1 (vec_len runs.now) (vec_capacity runs.now)) }
 {
+    // A match and not `let .. else`, since the proof needs that none runs.
     let place = match place_of(runs.as_slice(), id) {
         Some(place) => place,
         None => return Ok((Answer::Refused(NOT_RUNNING), Change::Stays)),
@@ -146,7 +147,7 @@ fn place_of(runs: &[Run], id: u32) -> Option<usize>
     first_place(runs, id)
 }
 
-/// The first place of this id in a list.
+/// The first place of this id in a list, in a function of its own, since the search proves `position` alone.
 fn first_place(runs: &[Run], id: u32) -> Option<usize>
     ensures { result ≡ position (λ r. r.id == id) runs.now }
 {

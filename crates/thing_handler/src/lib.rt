@@ -12,11 +12,11 @@
 //! assert_eq!(fade.turns().len(), 3);
 //! ```
 //!
-//! The handlers in memory are tables of `specs/InMemory.antt`: for what a handler holds and what it is called
-//! with, what it answers and what it holds then. `shipped_in` gives the handlers of the shipped rack, by the
-//! table of `specs/Shipped.antt`. The contract in a sentence: each call answers what its table says, makes one
-//! turn of that answer and leaves what the table says; or it is out of memory, makes no turn, counts one miss
-//! and leaves what was held.
+//! The handlers in memory are tables of `specs/InMemory.antt`: a row for each call says the answer, by the state that a
+//! handler holds, and the state that it holds then. `shipped_in` gives the handlers of the shipped rack, by the table
+//! of `specs/Shipped.antt`. The contract in a sentence: each call answers what its table says, makes one turn of that
+//! answer and leaves what the table says; or it is out of memory, makes no turn, counts one miss and leaves what was
+//! held.
 //!
 //! The crates above use a rack through the trait `Handlers`, and say what a rack did as the list of its calls
 //! (`RackShows` of `specs/Turns.antt`).

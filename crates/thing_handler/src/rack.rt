@@ -38,9 +38,9 @@ pub trait Handlers: Drop {
         requires { slot < length (slots self.now) }
         ensures { IfSome (slice_get (slots self.now) slot) (λ h. result.now ≡ h.turns) };
 
-    /// One call of the handler in this slot. The others keep their turns and their counts. It takes no
-    /// allocator: a rack keeps the one that it was made with. That the rack has the slot is the caller's to
-    /// know, since a site fits its rack.
+    /// One call of the handler in this slot. The others keep their turns and their counts. It takes no allocator, since
+    /// a rack keeps the one that it was made with. That the rack has the slot is the caller's to know, since a site
+    /// fits its rack.
     fn call(&mut self, slot: usize, number: u64, what: &CallKind) -> Result<Answer, NoMemory>
         requires { slot < length (slots self.old) }
         ensures { CallsHandler (slots self.old) (slots self.new) slot number what.now result };

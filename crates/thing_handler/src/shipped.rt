@@ -17,7 +17,7 @@ pub enum Shipped {
     Pulse(Pulse),
 }
 
-/// How many slots the shipped rack has.
+/// The number of slots of the shipped rack.
 pub const SHIPPED_SLOTS: usize = 64;
 
 /// The first slot of a job.
@@ -42,14 +42,20 @@ pub fn shipped_in(alloc: Global, slot: usize) -> Shipped
     }
 }
 
+/// The value that the cell of slot 0 holds at the start.
+const FIRST_VALUE: i64 = 7;
+
+/// The number of slots after which the values of the cells begin anew.
+const VALUES: usize = 4;
+
 /// The value that the cell of this slot holds at the start.
 fn value_at(alloc: Global, slot: usize) -> Tree
     ensures { result ≡ shipped_value slot }
 {
     if slot == 0 {
-        return Tree::Int(7);
+        return Tree::Int(FIRST_VALUE);
     }
-    match slot % 4 {
+    match slot % VALUES {
         0 => Tree::Int(0),
         1 => Tree::Bool(false),
         2 => Tree::Text(Text::from_string(String::new(alloc))),

@@ -1,4 +1,4 @@
-//! The turns that a handler made, and how often it was out of memory: what each handler keeps.
+//! The log that each handler keeps: the turns that it made, and the count of calls that were out of memory.
 
 ghost use Rattle.std.specs.Prelude.{◌≡◌, ◌<◌, ◌≤◌, [], ◌∷◌, ◌++◌, IfOk, OnOk, OnErr, vec_len, vec_capacity};
 ghost use Rattle.servient_base.specs.Count.{raised};

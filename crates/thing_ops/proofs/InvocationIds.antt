@@ -49,13 +49,13 @@ number_of_spelling text n some small is =
     let id = spelling_is_id text n some small is in
     ap (λ (b : Bool). cond b (Some (digits_value 10 text)) None) id.0 ∙ ap (λ (v : ℕ). Some v) id.1
 
--- what is no such spelling is no id
+-- a text that is no such spelling is no id
 pub number_of_none : (text : List ℕ) → ((n : ℕ) → 1 ≤ n → n ≤ 4294967295 → text ≡ decimal n → ⊥) → number_of_id text ≡ None
 number_of_none text none =
     unless (invocation_id text) (digits_value 10 text)
     (λ is. let spelled = id_is_spelling text is in none (digits_value 10 text) spelled.0 spelled.1 spelled.2)
 
--- what isn't UTF-8 is no id
+-- bytes that aren't UTF-8 are no id
 pub number_of_bytes : (bytes : List ℕ) → (IsUtf8 bytes → ⊥) → number_of_id bytes ≡ None
 number_of_bytes bytes isnt =
     number_of_none bytes (λ n some small is. isnt (subst (λ (bs : List ℕ). IsUtf8 bs) (sym is) (IsUtf8-from_ascii (decimal n) (IsAscii-decimal n (omega arith)))))
@@ -69,7 +69,7 @@ fails false never = refl
 pub isnt_text : (bytes : List ℕ) → (IsUtf8 bytes → ⊥) → is_utf8 bytes ≡ false
 isnt_text bytes isnt = fails (is_utf8 bytes) (λ is. isnt (IsUtf8-from_is_utf8 bytes is))
 
--- where a path leads that has actions in the place of the kind, by three tests of its last segment
+-- the route of a path that has actions in the place of the kind, by three tests of its last segment
 by_last : (observe subscribe id : Bool) (n : ℕ) → cond (((observe && true) && false) && true) route.Observe (cond (((subscribe && true) && false) && true) route.Subscribe (cond (((id && true) && true) && true) (route.Invocation n) route.Nowhere)) ≡ cond id (route.Invocation n) route.Nowhere
 by_last true true true n = refl
 by_last true true false n = refl

@@ -1,4 +1,4 @@
--- How the segments of a path lie in their bytes.
+-- The places of the segments of a path in their bytes.
 use Rattle.std.proofs.Common.{◌≡◌, ℕ, zero, suc, ◌+◌, ◌-◌, ◌<◌, ◌≤◌, List, [], ◌∷◌, ◌++◌, length, take, drop, get_or, slice_get, slice_range, Some, None, ◌≢◌, refl, ap, sym, subst, ◌∙◌, arith, length-append, length-drop}
 use Rattle.std.proofs.lemmas.List.{take-append-le, drop-append-le}
 use Rattle.std.proofs.Math.Seq.{drop-append_seam, take-length}
@@ -40,7 +40,7 @@ range_stays bytes further start end ordered within =
     ap (take (end - start)) (drop-append-le start bytes further (omega arith))
     ∙ take-append-le (end - start) (drop start bytes) further (omega (arith, length-drop start bytes))
 
--- what comes after all bytes is a piece
+-- the bytes that come after all others are a piece
 range_after : (bytes further : List ℕ) (start end : ℕ) → start ≡ length bytes → end ≡ length bytes + length further → slice_range (bytes ++ further) start end ≡ further
 range_after bytes further start end from to =
     let long : end - start ≡ length further = omega arith in
@@ -112,7 +112,7 @@ path_of_four : (path : List (List ℕ)) (first second third fourth : List ℕ) �
 path_of_four [] first second third fourth long = absurd (omega arith)
 path_of_four (a ∷ path) first second third fourth long = λ p q r s. cc (path_of_three path second third fourth (omega arith) q r s)
 
--- where a path of one segment leads, of two, and of four
+-- the route of a path of one segment, of two, and of four
 pub leads_by_one : (kind : RouteKind) (bytes ends : List ℕ) (first : List ℕ) → length ends ≡ 1 → slice_get (pieces bytes 0 ends) 0 ≡ Some first → kind ≡ route_of (first ∷ []) → kind ≡ route_of (pieces bytes 0 ends)
 leads_by_one kind bytes ends first long is known =
     known ∙ ap (λ (p : List (List ℕ)). route_of p) (sym (path_of_one (pieces bytes 0 ends) first (length-pieces bytes 0 ends ∙ long) is))
@@ -127,7 +127,7 @@ pub leads_by_four : (kind : RouteKind) (bytes ends : List ℕ) (first second thi
 leads_by_four kind bytes ends first second third fourth long is also too last known =
     known ∙ ap (λ (p : List (List ℕ)). route_of p) (sym (path_of_four (pieces bytes 0 ends) first second third fourth (length-pieces bytes 0 ends ∙ long) is also too last))
 
--- where a path of three segments leads, which the second of them says
+-- the route of a path of three segments, which the second of them says
 of_three : (kind : RouteKind) (path : List (List ℕ)) (second : List ℕ) → length path ≡ 3 → slice_get path 1 ≡ Some second → ((thing name : List ℕ) → kind ≡ route_of (thing ∷ second ∷ name ∷ [])) → kind ≡ route_of path
 of_three kind [] second long = absurd (omega arith)
 of_three kind (a ∷ []) second long = absurd (omega arith)
@@ -163,7 +163,7 @@ pub ends_same : (bytes shown places seen : List ℕ) → shown ≡ bytes → see
 ends_same bytes shown places seen b e are =
     subst (λ (es : List ℕ). AreEnds 0 es (length shown)) (sym e) (subst (λ (bs : List ℕ). AreEnds 0 places (length bs)) (sym b) are)
 
--- what a path leads to, judged by such slices
+-- the route of a path, judged by such slices
 pub judged_by : (kind : RouteKind) (bytes shown places seen : List ℕ) → shown ≡ bytes → seen ≡ places → AreEnds 0 places (length bytes) → kind ≡ route_of (pieces shown 0 seen) → AreJudged kind bytes places
 judged_by kind bytes shown places seen b e are is = record {
   within = are;

@@ -58,7 +58,7 @@ names_more (w ∷ vs) v are =
     ∙ sym (append_assoc (verb_name w) (further_names vs) (codes ", " ++ verb_name v))
     ∙ ap (λ (name : List ℕ). verb_name w ++ further_names vs ++ name) (sym (name_after _ v some))
 
--- what a verb adds to those in front of it that are taken
+-- a verb is added to those in front of it that are taken, or isn't
 one_more : (allow : Allow) (vs : List Verb) (i : ℕ) (d : Verb) (b : Bool) → i < length vs → takes allow (get_or vs i d) ≡ b → filter (takes allow) (take (i + 1) vs) ≡ filter (takes allow) (take i vs) ++ cond b (get_or vs i d ∷ []) []
 one_more allow vs i d b within taken =
     filter_more (takes allow) vs i d within

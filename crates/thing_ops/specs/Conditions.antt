@@ -1,6 +1,6 @@
--- What a request asks of the version that a property has: preconditions (RFC 9110, section 13; RFC 7252, sections 5.10.6
--- and 5.10.8). A version is a number, and stands for a representation as a strong entity tag does (RFC 9110, section
--- 8.8.3).
+-- The conditions of a request on the version that a property has: preconditions (RFC 9110, section 13; RFC 7252,
+-- sections 5.10.6 and 5.10.8). A version is a number, and stands for a representation as a strong entity tag does (RFC
+-- 9110, section 8.8.3).
 use Rattle.std.specs.Prelude.{ℕ, Bool, false, not, ◌||◌, nat_eq, [], Option, Some, None}
 use Rattle.std.specs.List.{list_any}
 use Rattle.thing_ops.specs.declared.conditions.Tags.{Tags}

@@ -1,5 +1,5 @@
--- How each outcome is answered: its status over HTTP (RFC 9110, section 15), its code over CoAP (RFC 7252, section
--- 5.9), its payload and its version.
+-- The answer to each outcome: its status over HTTP (RFC 9110, section 15), its code over CoAP (RFC 7252, section 5.9),
+-- its payload and its version.
 use Rattle.std.specs.Prelude.{ℕ, ◌+◌, ◌*◌, List, [], ◌++◌, codes, Option, Some, None, IsSome}
 use Rattle.std.specs.Fmt.{decimal}
 use Rattle.thing_ops.specs.declared.outcome.Outcome.{Outcome}
@@ -11,7 +11,7 @@ pub data Payload : Type 0 where
   word : List ℕ → Payload
   nothing : Payload
 
--- how an outcome is answered; None: there is no such outcome over this protocol
+-- the answer to an outcome; None: there is no such outcome over this protocol
 pub record Answer : Type 0 where
   pub status : Option ℕ
   pub code : Option ℕ
@@ -83,7 +83,7 @@ payload_bytes (text bytes) = bytes
 payload_bytes (word bytes) = bytes
 payload_bytes nothing = []
 
--- what is sent of an outcome
+-- the bytes that are sent of an outcome
 abbrev pub payload_of : Outcome → List ℕ
 payload_of o = payload_bytes (answer_of o).payload
 
@@ -105,7 +105,8 @@ plain_word nothing = []
 abbrev pub word_of : Outcome → List ℕ
 word_of o = plain_word (answer_of o).payload
 
--- the version of the property that was read, whose entity tag is said (RFC 9110, section 8.8.3; RFC 7252, section 5.10.6)
+-- the version of the property that was read, whose entity tag is said (RFC 9110, section 8.8.3; RFC 7252, section
+-- 5.10.6)
 abbrev pub version_of : Outcome → Option ℕ
 version_of (outcome.Content value tag) = tag
 version_of (outcome.NotModified tag) = Some tag

@@ -16,7 +16,7 @@ pub record PlainRequest : Type 0 where
   pub body : List ℕ
   pub conditions : Conditions
 
--- what a request says
+-- a request as plain lists
 abbrev pub plain_request : Request → PlainRequest
 plain_request r = record {
   verb = r.verb;

@@ -1,11 +1,11 @@
--- What a path leads to, by its segments.
+-- The route of a path, by its segments.
 use Rattle.std.specs.Prelude.{ℕ, Bool, true, false, ◌&&◌, nat_le, List, [], ◌∷◌, Option, Some, None, codes, decimal, if◌then◌else◌}
 use Rattle.std.specs.Str.{bytes_eq, is_utf8}
 use Rattle.std.specs.Str.Parse.{digits_value}
 use Rattle.thing_ops.specs.declared.routing.RouteKind.{RouteKind}
 use Rattle.thing_ops.specs.declared.routing.RouteKind.TheVariants as route
 
--- What a row of the table asks of a segment.
+-- The tests that a row of the table makes of a segment.
 
 -- to be this word
 abbrev pub the : List ℕ → List ℕ → Bool

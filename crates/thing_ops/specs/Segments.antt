@@ -1,4 +1,4 @@
--- The segments of a path, as they are kept: their bytes one after another, and where each of them ends.
+-- A path as it is kept: the bytes of its segments one after another, and where each of them ends.
 use Rattle.std.specs.Prelude.{◌≡◌, ◌≤◌, ℕ, List, [], ◌∷◌, ◌++◌, length, slice_range}
 use Rattle.thing_ops.specs.Routes.{route_of}
 use Rattle.thing_ops.specs.declared.routing.RouteKind.{RouteKind}
@@ -19,7 +19,7 @@ with_longer_last [] bytes = []
 with_longer_last (segment ∷ []) bytes = (segment ++ bytes) ∷ []
 with_longer_last (segment ∷ next ∷ segments) bytes = segment ∷ with_longer_last (next ∷ segments) bytes
 
--- what is kept of a path: the ends of its segments, and what the path leads to
+-- the parts that are kept of a path: the ends of its segments, and its route
 pub record AreJudged (kind : RouteKind) (bytes places : List ℕ) : Type 0 where
   pub within : AreEnds 0 places (length bytes)
   pub judged : kind ≡ route_of (pieces bytes 0 places)

@@ -1,4 +1,4 @@
--- Which verbs what is at a path takes, and the line that lists them (RFC 9110, section 10.2.1).
+-- The verbs that each kind of path takes, and the line that lists them (RFC 9110, section 10.2.1).
 use Rattle.std.specs.Prelude.{ℕ, Bool, false, List, [], ◌∷◌, ◌++◌, codes, ◌==◌, if◌then◌else◌}
 use Rattle.std.specs.List.{filter}
 use Rattle.thing_ops.specs.declared.verb.Verb.{Verb}
@@ -18,7 +18,7 @@ verb_name verb.Patch = codes "PATCH"
 verb_name verb.Delete = codes "DELETE"
 verb_name verb.Other = []
 
--- whether these verbs have that one; no other verb is ever among them
+-- these verbs have that one; no other verb is ever among them
 abbrev pub takes : Allow → Verb → Bool
 takes allow verb.Get = allow.get
 takes allow verb.Head = allow.head

@@ -103,7 +103,7 @@ impl Allow {
     }
 
     /// Writes what the field `Allow` says of these verbs (RFC 9110, section 10.2.1) to the beginning of `out`, and
-    /// returns its length. After it `out` stays as it was.
+    /// returns its length. After it `out` stays as it was. The room is lent, so that the line takes no memory.
     pub fn write(self, out: &mut [u8; LONGEST_LINE]) -> usize
         ensures { Puts (names_of (verbs_in self)) 0 result out.old out.new }
     {

@@ -77,8 +77,8 @@ pub struct Conditions {
     pub if_match: Option<Tags>,
     /// The versions that its sender has: If-None-Match in HTTP, ETag in CoAP.
     pub known: Tags,
-    /// Nothing is there: `If-None-Match: *` of a request to write (RFC 9110, section 13.1.2), and the option If-None-Match
-    /// (RFC 7252, section 5.10.8.2). A property always is.
+    /// Nothing is there: `If-None-Match: *` of a request to write (RFC 9110, section 13.1.2), and the option
+    /// If-None-Match (RFC 7252, section 5.10.8.2). It fails for each property, since a property always is there.
     pub absent: bool,
 }
 

@@ -1,8 +1,8 @@
 //! Requests to Things and their outcomes, over either protocol.
 //!
-//! A `Request` has a verb, the segments of a path, and what else HTTP (RFC 9110) and CoAP (RFC 7252) both say.
-//! `route` says what a path leads to, and `allowed` which verbs are taken there. An `Outcome` is the result of a
-//! request; its HTTP status, its CoAP code and its payload are three columns of one table.
+//! A `Request` has a verb, a path, and what else HTTP (RFC 9110) and CoAP (RFC 7252) both say. `route` says where a
+//! path leads, and `allowed` which verbs are taken there. An `Outcome` is the result of a request; its HTTP status, its
+//! CoAP code and its payload are three columns of one table.
 //!
 //! ```text
 //! let mut path = Segments::new(alloc);

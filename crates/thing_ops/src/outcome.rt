@@ -14,7 +14,8 @@ pub enum Outcome {
     Content {
         /// The value, as a JSON text.
         text: Bytes,
-        /// The version of the property that was read, which is at least 1; none where one property wasn't read by itself.
+        /// The version of the property that was read, which is at least 1; none where one property wasn't read by
+        /// itself.
         tag: Option<u32>,
     },
     /// A description, as a JSON text; and whether it is sent as `application/td+json`.

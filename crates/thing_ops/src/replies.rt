@@ -37,6 +37,9 @@ pub fn http_status(outcome: &Outcome) -> u16
     }
 }
 
+/// The number of codes of a class (RFC 7252, section 3): the detail has 5 bits.
+const CLASS: u8 = 32;
+
 /// The code over CoAP (RFC 7252, section 5.9): the class times 32, and the detail. The directory's own outcomes have
 /// none, since it isn't reached over CoAP.
 pub fn coap_code(outcome: &Outcome) -> u8
@@ -44,21 +47,21 @@ pub fn coap_code(outcome: &Outcome) -> u8
     ensures { (answer_of outcome.now).code ≡ Some result }
 {
     match outcome {
-        Outcome::Started(_, _) => 32 * 2 + 1,
-        Outcome::Deleted => 32 * 2 + 2,
-        Outcome::NotModified(_) => 32 * 2 + 3,
-        Outcome::Changed | Outcome::Output(_) => 32 * 2 + 4,
-        Outcome::Content { .. } | Outcome::Description(_, _) | Outcome::Empty => 32 * 2 + 5,
-        Outcome::BadValue => 32 * 4 + 0,
-        Outcome::Refused(_) => 32 * 4 + 3,
-        Outcome::NotFound | Outcome::Wait(_) => 32 * 4 + 4,
-        Outcome::NotAllowed(_) => 32 * 4 + 5,
-        Outcome::NotAcceptable => 32 * 4 + 6,
-        Outcome::PreconditionFailed => 32 * 4 + 12,
-        Outcome::TooLarge => 32 * 4 + 13,
-        Outcome::Format => 32 * 4 + 15,
-        Outcome::DeviceFault(_) | Outcome::BadAnswer => 32 * 5 + 0,
-        Outcome::InvocationsFull | Outcome::CallsUsed | Outcome::Memory => 32 * 5 + 3,
+        Outcome::Started(_, _) => CLASS * 2 + 1,
+        Outcome::Deleted => CLASS * 2 + 2,
+        Outcome::NotModified(_) => CLASS * 2 + 3,
+        Outcome::Changed | Outcome::Output(_) => CLASS * 2 + 4,
+        Outcome::Content { .. } | Outcome::Description(_, _) | Outcome::Empty => CLASS * 2 + 5,
+        Outcome::BadValue => CLASS * 4 + 0,
+        Outcome::Refused(_) => CLASS * 4 + 3,
+        Outcome::NotFound | Outcome::Wait(_) => CLASS * 4 + 4,
+        Outcome::NotAllowed(_) => CLASS * 4 + 5,
+        Outcome::NotAcceptable => CLASS * 4 + 6,
+        Outcome::PreconditionFailed => CLASS * 4 + 12,
+        Outcome::TooLarge => CLASS * 4 + 13,
+        Outcome::Format => CLASS * 4 + 15,
+        Outcome::DeviceFault(_) | Outcome::BadAnswer => CLASS * 5 + 0,
+        Outcome::InvocationsFull | Outcome::CallsUsed | Outcome::Memory => CLASS * 5 + 3,
         Outcome::Created(_)
         | Outcome::Listed(_)
         | Outcome::Invalid(_)

@@ -32,7 +32,7 @@ pub struct Accept {
 pub struct Request<'a> {
     /// Its method.
     pub verb: Verb,
-    /// The segments of its path, decoded.
+    /// Its path, decoded.
     pub path: Segments,
     /// Its query as it came, without the `?`; empty where it has none.
     pub query: &'a [u8],

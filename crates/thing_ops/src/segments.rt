@@ -1,4 +1,4 @@
-//! The segments of a path, in one buffer.
+//! A path, with its segments in one buffer.
 
 ghost use Rattle.std.specs.Prelude.{◌≡◌, ◌++◌, ◌∷◌, ◌<◌, ◌↔◌, [], List, ℕ, length, option_map, slice_get, IfOk, IsTrue, OnErr, OnOk};
 ghost use Rattle.thing_ops.specs.Routes.{route_of};
@@ -12,13 +12,13 @@ use smallvec::SmallVec;
 use std::alloc::Global;
 use std::marker::Model;
 
-/// The number of segments that a path has without further memory: no path that leads anywhere has more. No contract can
-/// say that a path is one piece of memory.
+/// The number of segments that a path has without further memory, since no path that leads anywhere has more. No
+/// contract can say that a path is one piece of memory.
 const FEW: usize = 4;
 
-/// The segments of a path: any bytes each, percent-encoding already taken away (RFC 3986, sections 2.1 and 3.3).
-/// Contracts see the list of them. The bytes lie in one buffer, and the ends of the first four segments beside it. The
-/// route is judged whenever the path changes, so that each layer that asks looks it up.
+/// A path: segments of any bytes each, percent-encoding already taken away (RFC 3986, sections 2.1 and 3.3). Contracts
+/// see the list of them. The bytes lie in one buffer, and the ends of the first four segments beside it. The route is
+/// judged whenever the path changes, so that each layer that asks looks it up.
 #[derive(Debug, Drop)]
 pub struct Segments {
     bytes: Vec<u8>,
@@ -77,7 +77,7 @@ impl Segments {
         ensures unchanged { OnErr result (self.new ≡ self.old) }
     {
         self.bytes.extend_from_slice(bytes)?;
-        // For the proof: a length that was read is below 2^64.
+        // Read for the proof, since a length that was read is below 2^64.
         let _fits = self.ends.len();
         let _ = self.ends.pop();
         self.ends.push_reserved(self.bytes.len());

@@ -13,7 +13,8 @@ use servient_base::put_bytes;
 pub const LONGEST_WORD: usize = 32;
 
 /// Writes the word of an outcome to the beginning of `out`, and returns its length: 0 where the outcome carries a text
-/// or there is nothing to say. After the word `out` stays as it was.
+/// or there is nothing to say. After the word `out` stays as it was. The room is lent, since the word of `Memory` is
+/// written where there is no memory.
 pub fn word(outcome: &Outcome, out: &mut [u8; LONGEST_WORD]) -> usize
     ensures { Puts (word_of outcome.now) 0 result out.old out.new }
 {

@@ -1,4 +1,4 @@
--- Which affordance a binary search finds among affordances that rise.
+-- The affordance that a binary search finds among affordances that rise.
 use Rattle.std.proofs.Common.{◌≡◌, ℕ, zero, suc, ◌+◌, ◌<◌, ◌≤◌, List, [], ◌∷◌, length, get_or, true, false, refl, sym, ap, inl, inr, ◌∙◌, arith}
 use Rattle.std.specs.Prelude.{Some, None, slice_get, min, ◌&&◌}
 use Rattle.std.specs.Str.{bytes_eq}
@@ -50,7 +50,7 @@ by_rank x y m n Less other is = ap (λ (o : Ordering). ordering_then o (slice_cm
 by_rank x y m n Greater other is = ap (λ (o : Ordering). ordering_then o (slice_cmp nat_cmp m n)) is
 by_rank x y m n Equal other is = absurd (other refl)
 
--- how one compares to the one that is looked for
+-- the order of one and the one that is looked for
 abbrev pub order_of : Kind → List ℕ → Affordance → Ordering
 order_of k name a = slice_cmp nat_cmp (key_of a) (key k name)
 
@@ -58,7 +58,7 @@ comparisons_rise : (list : List Affordance) (k : Kind) (name : List ℕ) → Are
 comparisons_rise list k name rising = searchable_from_sorted nat_list_cmp_total key_of list (key k name)
     (λ i d low within. ap is_lt (nat_list_cmp_total.antisymm (key_of (get_or list (i + 1) d)) (key_of (get_or list i d)) ∙ ap ordering_reverse (earlier_before list rising i (i + 1) d (omega arith) within)))
 
--- how it tests against the one that is looked for
+-- the test of one against the one that is looked for
 test_of_names : (m name : List ℕ) (o : Ordering) → slice_cmp nat_cmp m name ≡ o → bytes_eq name m ≡ is_eq (ordering_reverse o)
 test_of_names m name o is = sym (is_eq-slice_cmp name m) ∙ ap is_eq (nat_list_cmp_total.antisymm name m ∙ ap ordering_reverse is)
 

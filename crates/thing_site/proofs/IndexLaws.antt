@@ -1,4 +1,4 @@
--- Which Thing a binary search over an index finds, and how an index is made.
+-- The Thing that a binary search over an index finds, and the making of an index.
 use Rattle.std.proofs.Common.{◌≡◌, ℕ, zero, suc, ◌+◌, ◌<◌, ◌≤◌, List, [], ◌∷◌, ◌++◌, length, take, get_or, Bool, true, false, cond, refl, sym, ap, subst, inl, inr, ◌∙◌, arith}
 use Rattle.std.specs.Prelude.{Option, Some, None, slice_get, insert}
 use Rattle.std.specs.List.{AllByRecursion, HoldsAt}
@@ -20,7 +20,7 @@ use Rattle.thing_site.specs.Index.{segment_of, segment_at, segment_order, thing_
 
 -- ---- the order at any two places
 
--- what all of a list have, one at a place has
+-- a fact of all of a list is one of that at a place
 at_place : (P : ℕ → Type 0) (ns : List ℕ) (i d : ℕ) → AllByRecursion P ns → i < length ns → P (get_or ns i d)
 at_place P [] i d all within = absurd (omega arith)
 at_place P (n ∷ ns) zero d all within = all.0

@@ -1,4 +1,4 @@
--- Why a request is refused for what it hands in.
+-- The reasons for which a request is refused for what it hands in.
 use Rattle.std.proofs.Common.{◌≡◌, List, inl, inr, subst, sym}
 use Rattle.std.specs.Prelude.{Option, Some}
 use Rattle.thing_ops.specs.declared.outcome.Outcome.{Outcome}

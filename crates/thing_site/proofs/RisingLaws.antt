@@ -62,7 +62,7 @@ named_are : (k : Kind) (ms : Members) → AreOf k (named_affordances k ms)
 named_are k no_members = tt
 named_are k (member m v ms) = (refl, named_are k ms)
 
--- what is under a name of a value that is well formed is that too
+-- a member of a value that is well formed is well formed too
 under_well : (name : List ℕ) (ms : Members) (v : Json) → MembersAreWellFormed ms → value_under name ms ≡ Some v → IsWellFormed v
 under_well name no_members v well e = absurd cc
 under_well name (member m w ms) v well e = by_test (under_well name ms v well.2) (bytes_eq name m) e

@@ -1,4 +1,4 @@
--- What giving the affordances of Things their handlers promises.
+-- The promises of giving the affordances of Things their handlers.
 use Rattle.std.specs.Prelude.{◌≡◌, ℕ, List, [], ◌∷◌, ◌++◌, map, slice_get, Some, unwrap_or, Result, Ok, Err}
 use Rattle.wot_json.specs.Tree.{Json}
 use Rattle.wot_terms.specs.declared.kind.Kind.{Kind}

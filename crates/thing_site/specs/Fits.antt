@@ -1,4 +1,4 @@
--- When a site fits a rack.
+-- A site fits a rack.
 use Rattle.std.specs.Prelude.{◌≡◌, List, Some, slice_get}
 use Rattle.std.specs.List.{AllByRecursion}
 use Rattle.thing_handler.specs.Handler.{Seen}

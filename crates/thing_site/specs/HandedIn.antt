@@ -1,4 +1,4 @@
--- What judging a request promises, as far as no state counts.
+-- The promises of judging a request, as far as no state counts.
 use Rattle.std.specs.Prelude.{◌≡◌, ◌⊎◌, true, false, List, Option, Some, None, refl}
 use Rattle.std.specs.Coded.{Coded, code_by, coded×}
 use Rattle.wot_json.specs.Tree.{Json}
@@ -49,6 +49,6 @@ IsUnrefused act q inputs = (inputs_of act q.body ≡ Some inputs) × IsNone (λ 
 abbrev pub IsRefusedByRequest : Act → PlainRequest → Outcome → Type 0
 IsRefusedByRequest act q o = (o ≡ outcome.Memory) ⊎ IsFirst (λ r. StandsByRequest r act q) IsAnswer refusals_by_request o
 
--- how the logic keeps what is handed in
+-- the code of an input, as the kit asks in an `impl Model`
 abbrev pub input_code : Coded Input
 input_code = code_by (Placed × Json) (coded× placed_code json_code) (λ i. (i.affordance, i.value)) (λ q. record { affordance = q.0; value = q.1 }) (λ _. refl)

@@ -1,4 +1,4 @@
--- How a Thing is found by its segment: by the numbers of Things in the order of their segments.
+-- The index by which a Thing is found by its segment: the numbers of Things in the order of their segments.
 use Rattle.std.specs.Prelude.{◌≡◌, ℕ, ◌<◌, List, [], ◌∷◌, length, slice_get, Option, Some, None, if◌then◌else◌}
 use Rattle.std.specs.List.{AllByRecursion}
 use Rattle.std.specs.Str.{bytes_eq}
@@ -17,7 +17,7 @@ segment_of (Some thing) = thing.segment
 abbrev pub segment_at : Site → ℕ → List ℕ
 segment_at site number = segment_of (slice_get site number)
 
--- how the Thing of a number compares to a segment
+-- the order of the Thing of a number and a segment
 abbrev pub segment_order : Site → List ℕ → ℕ → Ordering
 segment_order site segment number = slice_cmp nat_cmp (segment_at site number) segment
 

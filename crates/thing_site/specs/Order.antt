@@ -12,7 +12,7 @@ rank kind.Property = 0
 rank kind.Action = 1
 rank kind.Event = 2
 
--- what an affordance is found by: its kind, and then the bytes of its name
+-- the key by which an affordance is found: its kind, and then the bytes of its name
 abbrev pub key : Kind → List ℕ → List ℕ
 key k name = rank k ∷ name
 

@@ -1,4 +1,4 @@
--- What a path leads to among Things, and which act a verb asks for there.
+-- The place of a path among Things, and the act that a verb asks for there.
 use Rattle.std.specs.Prelude.{ℕ, List, [], ◌∷◌, slice_get, Bool, true, false, Option, Some, None, option_map, option_and_then, if◌then◌else◌}
 use Rattle.wot_terms.specs.declared.kind.Kind.TheVariants as kind
 use Rattle.wot_terms.specs.declared.kind.Kind.{Kind}
@@ -28,7 +28,7 @@ affordance_in k path site =
 abbrev pub where_observable : Placed → Option Place
 where_observable p = if p.affordance.observable then Some (place.Observed p) else None
 
--- what a path of this form leads to; an invocation, whether there is one of this id or not
+-- the place of a path of this form; that of an invocation, whether there is one of this id or not
 abbrev pub place_at : RouteKind → List (List ℕ) → Site → Option Place
 place_at route.Root path site = option_map place.Description (slice_get site 0)
 place_at route.Thing path site = option_map place.Description (thing_in path site)
@@ -51,7 +51,7 @@ abbrev pub flags_of : Place → Flags
 flags_of (place.Property p) = record { read_only = p.affordance.read_only; write_only = p.affordance.write_only }
 flags_of place = record { read_only = false; write_only = false }
 
--- what a verb asks to be done at a place where it is taken (TD 1.1, section 8.3, and RFC 9110, section 9.3)
+-- the act that a verb asks for at a place where it is taken (TD 1.1, section 8.3, and RFC 9110, section 9.3)
 abbrev pub act_of : Place → Verb → Act
 act_of (place.Description thing) v = act.Describes thing
 act_of (place.AllProperties thing) verb.Put = act.WritesMany thing
@@ -86,7 +86,7 @@ act_at form place v = if is_listed v (verbs_of form (flags_of place)) then Some 
 
 -- ---- targets
 
--- what the own path of an observable property or an event means: the slot of its affordance
+-- the target of the own path of an observable property or an event: the slot of its affordance
 abbrev pub target_at : Option Place → Option ℕ
 target_at (Some (place.Property p)) = if p.affordance.observable then Some p.slot else None
 target_at (Some (place.Event p)) = Some p.slot

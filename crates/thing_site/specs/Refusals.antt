@@ -1,4 +1,4 @@
--- What a request hands in to an act, and why it is refused in every state.
+-- The inputs of a request to an act, and the reasons for which it is refused in every state.
 use Rattle.std.specs.Prelude.{◌≡◌, ◌<◌, ◌⊎◌, ℕ, List, [], ◌∷◌, ◌++◌, length, Bool, true, false, ◌||◌, IfSome, Option, Some, None, option_map, option_and_then, if◌then◌else◌}
 use Rattle.wot_json.specs.Tree.{Json, object, Members, no_members, member}
 use Rattle.wot_json.specs.Json.{text_of}
@@ -21,7 +21,7 @@ use Rattle.thing_site.specs.declared.place.Act.TheVariants as act
 
 -- ---- what is handed in
 
--- how long the text of a value may be that is handed in or comes back, in bytes
+-- the most bytes that the text of a value may have that is handed in or comes back
 abbrev pub longest_value : ℕ
 longest_value = 1024
 
@@ -60,7 +60,8 @@ abbrev pub invoke_inputs : Placed → Option Json → List ℕ → Option (List 
 invoke_inputs p None body = no_inputs body
 invoke_inputs p (Some schema) body = option_map (only_input p) (tree_of body)
 
--- What a body hands in to an act; None: the act takes a body and has none that can be read, or the other way round.
+-- The inputs that a body hands in to an act; None: the act takes a body and has none that can be read, or the other way
+-- round.
 abbrev pub inputs_of : Act → List ℕ → Option (List Input)
 inputs_of (act.Describes thing) body = no_inputs body
 inputs_of (act.ReadsAll thing) body = no_inputs body
@@ -75,7 +76,7 @@ inputs_of (act.Waits p) body = no_inputs body
 
 -- ---- what an act asks of a request
 
--- what its answer can be sent as: a description as either format, a value as JSON; other acts send no such thing
+-- the formats of its answer: a description as either format, a value as JSON; other acts send no such thing
 abbrev pub answer_format : Act → AnswerFormat
 answer_format (act.Describes thing) = sent.Description
 answer_format (act.ReadsAll thing) = sent.Json
@@ -88,7 +89,7 @@ answer_format (act.WritesMany thing) = sent.Any
 answer_format (act.Writes p) = sent.Any
 answer_format (act.Cancels p id) = sent.Any
 
--- what its body is taken as: for a description also as descriptions are
+-- the formats of its body: for a description also those of descriptions
 abbrev pub body_format : Act → BodyFormat
 body_format (act.Describes thing) = taken.Description
 body_format act = taken.Json
@@ -113,8 +114,8 @@ IsEmptyBody bytes = bytes ≡ []
 abbrev pub HasOtherFormat : BodyFormat → PlainRequest → Type 0
 HasOtherFormat b q = (¬ (IsEmptyBody q.body)) × (is_taken_format b q.format ≡ false)
 
--- What an act asks of a request, be it of a Thing or of what else there is (the directory): what its answer can be sent
--- as, what its body is taken as, and what a body hands in to handlers; None: the body isn't as it should be.
+-- The demands of an act on a request, be it of a Thing or of what else there is (the directory): the formats of its
+-- answer, those of its body, and the inputs that a body hands in to handlers; None: the body isn't as it should be.
 pub record Demands : Type 0 where
   pub answer : AnswerFormat
   pub body : BodyFormat
@@ -156,7 +157,7 @@ abbrev pub Holding : {A : Type 0} → (A → Type 0) → Option A → Type 0
 Holding P None = ⊥
 Holding P (Some a) = P a
 
--- when each of them holds of what is asked for, in every state
+-- each of them holds of a request for this, in every state
 abbrev pub StandsBy : Refusal → Demands → PlainRequest → Type 0
 -- the sender takes no format that the answer has
 StandsBy answer_not_acceptable d q = is_acceptable d.answer q.accept ≡ false
@@ -175,7 +176,7 @@ StandsBy r d q = ⊥
 abbrev pub StandsByRequest : Refusal → Act → PlainRequest → Type 0
 StandsByRequest r act q = StandsBy r (demands_of act) q
 
--- what those against an act are answered with
+-- the answer to each of those against an act
 abbrev pub IsAnswer : Refusal → Outcome → Type 0
 IsAnswer answer_not_acceptable o = o ≡ outcome.NotAcceptable
 IsAnswer format_not_taken o = o ≡ outcome.Format

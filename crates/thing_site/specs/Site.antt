@@ -30,8 +30,7 @@ pub record ExposedThing : Type 0 where
 abbrev pub Site : Type 0
 Site = List ExposedThing
 
--- which handler serves which affordance: the segment of a Thing, the pointer to an affordance in its description, a
--- slot
+-- the handlers of affordances: the segment of a Thing, the pointer to an affordance in its description, a slot
 abbrev pub Slots : Type 0
 Slots = List (List ℕ × List ℕ × ℕ)
 
@@ -140,7 +139,7 @@ those_of k thing = filter (of_kind k) thing.affordances
 abbrev pub events_of : Site → List Placed
 events_of = flat_map (those_of kind.Event)
 
--- What may emit: an observable property and each event (TD 1.1, sections 5.3.1.3 and 5.3.1.5).
+-- An observable property and each event may emit (TD 1.1, sections 5.3.1.3 and 5.3.1.5).
 abbrev pub is_emitter : Placed → Bool
 is_emitter p = if is_kind kind.Event p.affordance.kind then true else is_kind kind.Property p.affordance.kind && p.affordance.observable
 

@@ -1,4 +1,4 @@
--- How the logic keeps a site, as the kit asks in an `impl Model`. No contract names this.
+-- The codes of a site, as the kit asks in an `impl Model`. No contract names them.
 use Rattle.std.specs.Prelude.{ℕ, List, refl}
 use Rattle.std.specs.Coded.{Coded, code_by, coded×, coded_ℕ, coded_list}
 use Rattle.wot_json.specs.Tree.{Json}

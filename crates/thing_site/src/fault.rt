@@ -4,8 +4,8 @@ use servient_base::NoMemory;
 use thiserror::Error;
 use wot_json::Text;
 
-/// Why Things, slots and a rack don't fit: the segment of the Thing and the pointer to the affordance (RFC 6901) of the
-/// first one, in the order of Things and affordances.
+/// The cause for which Things, slots and a rack don't fit: the segment of the Thing and the pointer to the affordance
+/// (RFC 6901) of the first one, in the order of Things and affordances.
 #[derive(Debug, Drop, Error)]
 pub enum ExposeFault {
     /// The affordance is given no slot, or none of the rack.

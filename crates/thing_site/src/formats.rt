@@ -18,8 +18,8 @@ pub enum AnswerFormat {
     Description,
 }
 
-/// The formats in which the body of an act is taken. `application/json` is taken everywhere; a body that names no format
-/// is of that one.
+/// The formats in which the body of an act is taken. `application/json` is taken everywhere; a body that names no
+/// format is of that one.
 #[derive(Clone, Copy, Debug, PartialEq, Eq, Drop)]
 pub enum BodyFormat {
     /// As that alone.
@@ -30,8 +30,8 @@ pub enum BodyFormat {
     Patch,
 }
 
-/// Judges a request by the formats that an act asks for: its sender takes the answer, and its body, if it has one, is in
-/// a format that is taken.
+/// Judges a request by the formats that an act asks for: its sender takes the answer, and its body, if it has one, is
+/// in a format that is taken.
 pub fn judge_formats(
     answer: AnswerFormat,
     body: BodyFormat,

@@ -1,9 +1,9 @@
-//! Which Things there are, which handler serves which affordance, and where a path leads: what is constant in a run.
+//! The site: the Things, the handler of each affordance, and where a path leads. All of it is constant in a run.
 //!
-//! `IndexedThings::new` gives the affordances of Things the handlers of a rack, by a list of slots, or names the
-//! first that has none, one of another kind, or one that is taken. `place_at` says what a path leads to,
-//! `act_at` what a verb asks for there, and `judge` what a request hands in to that act, or why it is refused in
-//! every state of the Things.
+//! `IndexedThings::new` gives the affordances of Things the handlers of a rack, by a list of slots, or names the first
+//! that has none, one of another kind, or one that is taken. `place_at` gives the place of a path, `act_at` the act of
+//! a verb there, and `judge` the inputs of a request to that act, or the outcome where it is refused in every state of
+//! the Things.
 //!
 //! ```
 //! use thing_handler::{Kind, Rack};

@@ -106,8 +106,8 @@ pub fn act_at<'a>(route: RouteKind, place: Place<'a>, verb: Verb) -> Result<Act<
     }
 }
 
-/// The act of a verb at a place where it is taken. The table `verbs_of`, which `act_at` asks, alone says which verbs these
-/// are.
+/// The act of a verb at a place where it is taken. The table `verbs_of`, which `act_at` asks, alone says which verbs
+/// these are.
 fn act_of<'a>(place: Place<'a>, verb: Verb) -> Act<'a>
     ensures { result ≡ spec.act_of place.entry verb }
 {

@@ -1,4 +1,4 @@
-//! Which handler serves which affordance.
+//! The handlers of affordances, as a configuration lists them.
 
 ghost use Rattle.std.specs.Prelude.{◌≡◌, ◌++◌, [], ◌∷◌, OnErr, OnOk};
 

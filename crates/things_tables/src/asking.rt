@@ -9,13 +9,13 @@
 //! GET /lamp/properties/status ask:absent
 //! ```
 //!
-//! Without a word the sender takes JSON, says nothing of what it sends, and asks nothing of versions. The body is bytes in
+//! Without a word the sender takes JSON, names no format for its body, and has no conditions. The body is bytes in
 //! text.
 
 use std::alloc::{AllocError, Global};
 use thing_ops::{Accept, Conditions, Format, Tags, Verb};
 
-/// What a request asks, its path, its conditions and its body still in text.
+/// A request, its path, its conditions and its body still in text.
 #[derive(Clone, Copy)]
 pub struct Ask<'a> {
     pub verb: Verb,
@@ -39,7 +39,7 @@ fn verb_of(method: &str) -> Verb {
     }
 }
 
-/// What a sender takes, by the word for it.
+/// The formats that a sender takes, by the word for them.
 fn accept_of(word: &str) -> Option<Accept> {
     match word {
         "accept=td" => Some(Accept {
@@ -69,7 +69,7 @@ fn format_of(word: &str) -> Option<Format> {
     }
 }
 
-/// The first word of a text, and what follows it.
+/// The first word of a text, and the text after it.
 fn cut(text: &str) -> (&str, &str) {
     text.split_once(' ').unwrap_or((text, ""))
 }

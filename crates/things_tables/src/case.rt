@@ -1,9 +1,10 @@
-//! What comes before the steps of a case of `exposing` and `acts`:
+//! The lines before the steps of a case of `exposing` and `acts`:
 //!
 //! ```text
 //! = SEGMENT              the Thing, by the segment of its path; the lines after it are its description
 //! slot POINTER N         the slot of one of its affordances
-//! @ KIND ANSWERS         a device of this kind in the next slot, with these answers, `; ` between them; without any the rack is the shipped one
+//! @ KIND ANSWERS         a device of this kind in the next slot, with these answers, `; ` between them;
+//!                        without any the rack is the shipped one
 //! ```
 //!
 //! A case without a step is read after the lines of each later case of its file.

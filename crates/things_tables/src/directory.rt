@@ -23,11 +23,11 @@ use std::str;
 use wot_directory::{DirFault, Directory};
 use wot_json::{Tree, read, text_of};
 
-/// What a valid description begins with.
+/// The beginning of a valid description.
 const START: &str =
     r#"{"@context":"https://www.w3.org/2022/wot/td/v1.1","security":"n","securityDefinitions":{"n":{"scheme":"nosec"}},"title":"T""#;
 
-/// The tree of a JSON text; what is none counts as out of memory.
+/// The tree of a JSON text; a text that is none counts as out of memory.
 fn tree_of(alloc: Global, text: &str) -> Result<Tree, AllocError> {
     match read(alloc, text.as_bytes()) {
         Ok(tree) => Ok(tree),
@@ -52,7 +52,8 @@ fn id_of(alloc: Global, written: &str) -> Result<String, AllocError> {
     String::from_str(alloc, str::from_utf8(bytes.as_slice()).unwrap_or("no text"))
 }
 
-/// Writes the answer of a call without a value.
+/// Writes the answer of a call without a value. The text is lent, since a function pays at each early exit for what it
+/// owns.
 fn put_done(text: &mut String, outcome: Result<(), DirFault>) -> Result<(), AllocError> {
     match outcome {
         Ok(()) => text.push_str("done"),

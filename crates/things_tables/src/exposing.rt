@@ -1,4 +1,4 @@
-//! Things as they are exposed: whether they fit a rack, and their histories.
+//! Things as they are exposed: their fit to a rack, and their histories.
 
 ghost use Rattle.std.specs.Prelude.{IfOk};
 ghost use Rattle.std.specs.List.{AllByRecursion};
@@ -30,7 +30,7 @@ fn things_of(alloc: Global, segment: &str, description: &str) -> Result<Things, 
     Ok(things)
 }
 
-/// Writes why Things don't fit a rack.
+/// Writes the cause for which Things don't fit a rack.
 fn put_fault(text: &mut String, fault: &ExposeFault) -> Result<(), AllocError> {
     match fault {
         ExposeFault::NoSlot(segment, pointer) => write!(text, "no slot {segment} {pointer}")?,
@@ -43,7 +43,7 @@ fn put_fault(text: &mut String, fault: &ExposeFault) -> Result<(), AllocError> {
     write!(text, "; {fault}")
 }
 
-/// Writes a case whose Things don't fit: each step says that.
+/// Writes a case whose Things don't fit, so that each step says that.
 fn put_unfit(text: &mut String, fault: &ExposeFault, block: &str) -> Result<(), AllocError> {
     for line in block.lines() {
         match line.split_once(" => ") {

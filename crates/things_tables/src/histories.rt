@@ -1,12 +1,13 @@
 //! Histories of Things as they are exposed, and the steps besides requests:
 //!
 //! ```text
-//! METHOD PATH ..         status, code and payload; the version; how often handlers were called; the slots whose values were emitted
-//! repeat N METHOD ..     the same request N times: how many answers have the status and the code of the last
+//! METHOD PATH ..         status, code and payload; the version; the number of calls of handlers; the slots of the
+//!                        values that were emitted
+//! repeat N METHOD ..     the same request N times: the number of answers that have the status and the code of the last
 //! tick                   polls all events
 //! last SLOT              the text of the last emission of this slot
 //! target PATH            the slot of the emissions of a path
-//! accounts               how many invocations there are, all calls of handlers, and the id of the next invocation
+//! accounts               the number of invocations, all calls of handlers, and the id of the next invocation
 //! expose                 the Things fit the rack
 //! ```
 
@@ -23,7 +24,7 @@ use thing_core::{Exposed, a_rack_fits_on, a_rack_fits_on_after_polls};
 use thing_handler::Handlers;
 use thing_ops::Request;
 
-/// How many emissions a step may have.
+/// The most emissions that a step may have.
 const MOST_EMISSIONS: u32 = 16;
 
 /// Writes the slots of emissions until none is left, and hands them out so.
@@ -40,7 +41,7 @@ fn put_emissions(text: &mut String, exposed: &mut Exposed) -> Result<(), AllocEr
     Err(AllocError)
 }
 
-/// Writes how often handlers were called since there were n calls.
+/// Writes the number of calls of handlers since there were n.
 fn put_calls(text: &mut String, exposed: &Exposed, before: u64) -> Result<(), AllocError> {
     write!(
         text,
@@ -96,7 +97,7 @@ fn put_asked<R: Handlers>(
     put_performed(text, exposed, rack, &request)
 }
 
-/// How a request was answered that was made several times: how many answers begin as the last one did.
+/// The answers to a request that was made several times: the number of those that begin as the last one did.
 #[derive(Drop)]
 struct Tally {
     count: u64,
@@ -135,7 +136,7 @@ fn make_counted<R: Handlers>(
     counted.count(answer.as_str())
 }
 
-/// Makes a request n times, and writes how many were answered as the last.
+/// Makes a request n times, and writes the number of those that were answered as the last.
 fn put_repeated<R: Handlers>(
     text: &mut String,
     alloc: Global,
@@ -159,7 +160,7 @@ fn put_repeated<R: Handlers>(
     write!(text, "{} times {}", counted.count, counted.begin.as_str())
 }
 
-/// Polls all events, and writes how often handlers were called and what was emitted.
+/// Polls all events, and writes the number of calls of handlers and the emissions.
 fn put_tick<R: Handlers>(
     text: &mut String,
     exposed: &mut Exposed,
@@ -179,7 +180,7 @@ fn put_tick<R: Handlers>(
     Ok(())
 }
 
-/// Writes what is known of Things without a request.
+/// Writes the facts on Things that need no request.
 fn put_known(
     text: &mut String,
     alloc: Global,

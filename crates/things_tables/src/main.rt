@@ -1,7 +1,7 @@
 //! Tables of Things: routes, verbs, outcomes, the directory, and Things as they are exposed. Each word names a file. A
-//! row is what is given, ` => `, and what comes of it; in `directory`, `exposing` and `acts` the rows between two empty
-//! lines are a history, one after another on the same directory or the same Things. The program prints each row with
-//! what does come of it, and each other line as it is: so it prints its files, if all is right.
+//! row is an input, ` => `, and its outcome; in `directory`, `exposing` and `acts` the rows between two empty lines are
+//! a history, one after another on the same directory or the same Things. The program prints each row with its real
+//! outcome, and each other line as it is, so that it prints its files, if all is right.
 #![tactic(auto)]
 
 mod asking;
@@ -17,7 +17,8 @@ mod routes;
 use std::alloc::{AllocError, Global};
 use std::{env, fs, io};
 
-/// Writes what comes of a row of this table.
+/// Writes the outcome of a row of this table. The text is lent, since a function pays at each early exit for what it
+/// owns.
 fn put_row(text: &mut String, alloc: Global, table: &str, given: &str) -> Result<(), AllocError> {
     match table {
         "segments" => paths::put_steps(text, alloc, given),

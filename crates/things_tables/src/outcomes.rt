@@ -1,5 +1,5 @@
-//! How outcomes are answered: HTTP status, CoAP code, and the payload, which is the text that an
-//! outcome carries or its word.
+//! The answers to outcomes: HTTP status, CoAP code, and the payload, which is the text that an outcome carries or its
+//! word.
 
 use crate::paths::{path_of, put_path};
 use crate::routes::put_line;
@@ -136,7 +136,7 @@ fn put_word(text: &mut String, outcome: &Outcome) -> Result<(), AllocError> {
     put(text, out.get(..count).unwrap_or(b"too long"))
 }
 
-/// Writes what an outcome says besides its payload.
+/// Writes the parts of an outcome besides its payload.
 fn put_further(text: &mut String, outcome: &Outcome) -> Result<(), AllocError> {
     match outcome {
         Outcome::Started(place, _) => {
@@ -156,7 +156,7 @@ fn put_further(text: &mut String, outcome: &Outcome) -> Result<(), AllocError> {
     }
 }
 
-/// Writes how an outcome is answered.
+/// Writes the answer to an outcome.
 ///
 /// # Errors
 ///
@@ -170,7 +170,7 @@ pub fn put_answer(text: &mut String, outcome: &Outcome) -> Result<(), AllocError
     put_further(text, outcome)
 }
 
-/// Writes how the outcome of a row is answered; its word and its text apart.
+/// Writes the answer to the outcome of a row; its word and its text apart.
 ///
 /// # Errors
 ///

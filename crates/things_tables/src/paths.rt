@@ -75,7 +75,7 @@ fn begun(alloc: Global, steps: &str) -> Result<Segments, AllocError> {
     }
 }
 
-/// Writes the path after these steps, how many segments it has, and the one after its last.
+/// Writes the path after these steps, the number of its segments, and the one after its last.
 ///
 /// # Errors
 ///

@@ -1,4 +1,4 @@
-//! What paths lead to, and which verbs are taken there.
+//! The routes of paths, and the verbs that are taken there.
 
 use crate::paths::path_of;
 use case_notation::put;
@@ -6,7 +6,7 @@ use std::alloc::{AllocError, Global};
 use std::fmt::Write;
 use thing_ops::{Allow, Flags, LONGEST_LINE, RouteKind, Verb, allowed, route};
 
-/// Writes what a path leads to.
+/// Writes the route of a path.
 ///
 /// # Errors
 ///

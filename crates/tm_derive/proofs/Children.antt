@@ -11,8 +11,8 @@ use Rattle.tm_derive.specs.declared.place.Place.{Place}
 use Rattle.tm_derive.specs.declared.fault.DeriveFault.{DeriveFault}
 use Rattle.tm_derive.proofs.Outcomes.{refused_before, refused_same}
 
--- what was made of the links before an index, with what the others will give, is what all of them give; and the others
--- have all faults
+-- the Things made of the links before an index, with those that the others will give, are those of all links; and the
+-- others have all faults
 pub record ChildrenGoOn (models : Models) (above : List (List ℕ)) (place : Place) (links : List Link) (made : List Place) (index : ℕ) : Type 0 where
   pub children : made ++ children_from place (index + 1) (kept_links (drop index links)) ≡ children_from place 1 (kept_links links)
   pub faults : submodel_faults models above place (segments_of made) (index + 1) (kept_links (drop index links)) ≡ submodel_faults models above place [] 1 (kept_links links)

@@ -93,7 +93,7 @@ new_below above model url new =
     let parts = or_parts (is_among url above) (bytes_eq url model) new in
     list_any-append (bytes_eq url) above (model ∷ []) ∙ ap₂ (λ (x y : Bool). x || (y || false)) parts.0 parts.1
 
--- what is entered of a model that isn't in the chain
+-- the part that is entered of a model that isn't in the chain
 entered_is : (sources : Sources) (chain : List Reference) (url : List ℕ) (w : Option Json) → is_in_chain (whole_of url) chain ≡ false → whole_model sources url ≡ w
     → entered_part sources chain (whole_of url) ≡ option_and_then (part_of []) w
 entered_is sources chain url w new is =
@@ -297,7 +297,7 @@ goes_inside inside from chain url (Some (Ok found)) whole is none =
     by true is none same = absurd cc
     by false is none same = record { new = is; faultless = subst (λ (v : Json). inside v ≡ []) same none }
 
--- what a model extends is gone through in the same way
+-- the model that a model extends is gone through in the same way
 abbrev Extends : ℕ → ℕ → Sources → Step → (Reference → List Reference → Reference → List ResolveFault) → List Reference → Type 0
 Extends a b sources step faults chain = (from : Reference) (url : List ℕ) → Near (step Part 0 chain (whole_of url)) → faults from chain (whole_of url) ≡ [] → Same a b sources url
 

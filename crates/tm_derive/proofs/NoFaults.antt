@@ -44,7 +44,7 @@ none_of_map : {A B : Type 0} (f : A → B) (xs : List A) → map f xs ≡ [] →
 none_of_map f [] none = refl
 none_of_map f (x ∷ xs) none = absurd (cc)
 
--- what holds of each, and of each of two lists
+-- a property of each, and of each of two lists
 each : {A : Type 0} (P Q : A → Type 0) → ((x : A) → P x → Q x) → (xs : List A) → AllByRecursion P xs → AllByRecursion Q xs
 each P Q f [] all = tt
 each P Q f (x ∷ xs) all = (f x all.0, each P Q f xs all.1)
@@ -67,7 +67,7 @@ differ_in_both (x ∷ xs) ys first next apart = (each_of_both (λ y. x ≢ y) xs
 and_both : (a b : Bool) → a ≡ true → b ≡ true → (a && b) ≡ true
 and_both a b one other = ap (λ (x : Bool). x && b) one ∙ other
 
--- what comes after the segment of a Thing in those of the Things below it
+-- the bytes after the segment of a Thing in those of the Things below it
 abbrev pub IsTail : List ℕ → Type 0
 IsTail [] = ⊤
 IsTail (b ∷ bs) = (b ≡ 126) × (is_plain_segment bs ≡ true)
@@ -129,7 +129,7 @@ plain_tail : (tail : List ℕ) → IsTail tail → is_plain_segment tail ≡ tru
 plain_tail [] is = refl
 plain_tail (b ∷ bs) is = and_both (is_segment_byte b) (is_plain_segment bs) (ap is_segment_byte is.0) is.1
 
--- what is at or below a plain segment is plain
+-- a segment at or below a plain one is plain
 plain_below : (segment : List ℕ) → is_plain_segment segment ≡ true → (s : List ℕ) → IsAtOrBelow segment s → is_plain_segment s ≡ true
 plain_below segment plain s at = ap is_plain_segment at.1 ∙ plain_both segment at.0 plain (plain_tail at.0 at.2)
 
@@ -284,7 +284,7 @@ all_valid of_place sound (place ∷ places) none =
     each_of_both (λ o. HasValid o.tree) (of_place place) (flat_map of_place places)
     (sound place (first_faultless of_place place places none)).valid (all_valid of_place sound places (others_faultless of_place place places none))
 
--- what holds of all segments at and below these
+-- a property of all segments at and below these
 all_segments : (of_place : Place → List Outcome) → EachSound of_place → (P Q : List ℕ → Type 0) → ((segment : List ℕ) → P segment → (s : List ℕ) → IsAtOrBelow segment s → Q s)
     → (places : List Place) → AllByRecursion P (segments_of places) → faults_in (flat_map of_place places) ≡ [] → AllByRecursion Q (segments_in (flat_map of_place places))
 all_segments of_place sound P Q gives [] all none = tt
@@ -382,7 +382,7 @@ pairs_differ (t ∷ ts) differ =
     at [] all = tt
     at (b ∷ rest) all = (all.0, at rest all.1)
 
--- what holds of the segments holds of the Things
+-- a property of the segments is one of the Things
 plain_things : (things : Things) → AllByRecursion (λ s. is_plain_segment s ≡ true) (map (λ (thing : List ℕ × Json). thing.0) things)
     → AllByRecursion (λ (t : List ℕ × Json). is_plain_segment t.0 ≡ true) things
 plain_things [] all = tt
@@ -412,7 +412,7 @@ good given root things is =
           (each (IsAtOrBelow given.frame.segment) (λ s. is_plain_segment s ≡ true) (plain_below given.frame.segment of_root) (segments_in os) are.within));
     }
 
--- what is derived is good
+-- the derived Things are good
 pub derived_good : (models : Models) (values : Values) (choices : List Choice) (frame : Frame) (root : List ℕ) (r : Result Things DeriveFault)
     → IfOk r (λ things. derived models values choices frame root ≡ Ok things) → IfOk r (AreGood frame.segment)
 derived_good models values choices frame root (Ok things) is =

@@ -60,7 +60,7 @@ pub unresolved : (given : Given) (above : List (List ℕ)) (place : Place) (e : 
 unresolved given above place e (inl memory) = inl memory
 unresolved given above place e (inr no_value) = no_value_refused given above place e no_value
 
--- why the code has no value
+-- the reason for which the code has no value
 pub no_value_is : (given : Given) (place : Place) (e : DeriveFault) (found : ResolveFault) → (found ≡ none.NoMemory → e ≡ fault.NoMemory) → (e ≡ fault.NoMemory) ⊎ (e ≡ fault.Resolve place.segment found)
     → (found ≡ none.NoMemory) ⊎ (resolved_from given.sources place.model ≡ Err found) → (e ≡ fault.NoMemory) ⊎ IsNoValue given place e
 no_value_is given place e found memory made (inl none_left) = inl (memory none_left)

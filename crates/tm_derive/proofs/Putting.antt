@@ -52,7 +52,7 @@ pub record PutsOn (room : ℕ) (given : Given) (above : List (List ℕ)) (places
   pub faults : faults_in (of_places room given above (drop index places)) ≡ faults_in (of_places room given above places)
   pub segments : AreWhole (of_places room given above (drop index places)) → AreWhole (of_places room given above places)
 
--- what is left at an index, first the outcomes of the place there
+-- the outcomes left at an index, first those of the place there
 places_left : (room : ℕ) (given : Given) (above : List (List ℕ)) (places : List Place) (index : ℕ) (place : Place) → index < length places → place ≡ get_or places index place
     → of_places room given above (drop index places) ≡ outcomes_within room given above place ++ of_places room given above (drop (index + 1) places)
 places_left room given above places index place within is = ap (λ (ps : List Place). of_places room given above ps) (left_at places index place within is)

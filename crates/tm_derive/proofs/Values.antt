@@ -1,4 +1,4 @@
--- What the code makes of values, by the cases of a tree.
+-- The code's results for values, by the cases of a tree.
 use Rattle.std.proofs.Common.{◌≡◌, ℕ, ◌+◌, ◌<◌, List, [], ◌∷◌, ◌++◌, length, drop, get_or, Bool, true, false, sym, ap, subst, ◌∙◌, append_assoc, cond, not, map}
 use Rattle.std.specs.Prelude.{Option, Some, None, option_map, is_none, filter, codes, slice_get}
 use Rattle.std.specs.List.{list_all}

@@ -1,4 +1,4 @@
--- What is derived, from the Things that were put.
+-- The result of a derivation, from the Things that were put.
 use Rattle.std.proofs.Common.{◌≡◌, ◌⊎◌, ℕ, List, [], ◌∷◌, map, refl, sym, ap, subst, ◌∙◌, inl, inr}
 use Rattle.std.specs.Prelude.{Option, Some, None, Result, Ok, Err, IfOk, IfErr}
 use Rattle.std.specs.List.{flat_map}

@@ -1,6 +1,6 @@
--- What a Thing Model is derived into (Thing Description 1.1, section "Thing Model"): the descriptions of a Thing and of
--- all Things that it is composed of, or the first fault. It is a list of outcomes in preorder, each with all faults of
--- its Thing, and the answer is the head of all faults, because a list can be read without a walk that stops.
+-- The result of deriving a Thing Model (Thing Description 1.1, section "Thing Model"): the descriptions of a Thing and
+-- of all Things that it is composed of, or the first fault. It is a list of outcomes in preorder, each with all faults
+-- of its Thing, and the answer is the head of all faults, because a list can be read without a walk that stops.
 use Rattle.std.specs.Prelude.{ℕ, zero, suc, List, [], ◌∷◌, ◌++◌, map, codes, Option, Some, None, Result, Ok, Err}
 use Rattle.std.specs.List.{flat_map}
 use Rattle.wot_json.specs.Tree.{Json}
@@ -91,7 +91,7 @@ thing_faults given above place (Ok value) =
 
 -- ---- all Things
 
--- what is said of one Thing: its segment, its description, and all its faults
+-- the outcome of one Thing: its segment, its description, and all its faults
 pub record Outcome : Type 0 where
   pub segment : List ℕ
   pub tree : Option Json
@@ -149,7 +149,7 @@ abbrev pub things_or_fault : List Choice → List Outcome → Result Things Deri
 things_or_fault choices os =
     elim (first_of (all_faults choices os)) as (λ _. Result Things DeriveFault) [ None ↦ Ok (flat_map thing_of os) | Some e ↦ Err e ]
 
--- what the model `root` of a library is derived into, with these values in place of placeholders and these choices
+-- the result of deriving the model `root` of a library, with these values in place of placeholders and these choices
 abbrev pub derived : Models → Values → List Choice → Frame → List ℕ → Result Things DeriveFault
 derived models values choices frame root =
     things_or_fault choices (outcomes (record { models = models; sources = sources_of models values; choices = choices; frame = frame }) root)

@@ -9,7 +9,7 @@ use Rattle.tm_derive.specs.Changes.{part_under, change_of}
 use Rattle.tm_derive.specs.Given.{Choice}
 use Rattle.tm_derive.specs.Optional.{is_among, is_chosen}
 
--- what is optional and not chosen for the Thing of this segment
+-- the affordance at this place is optional and not chosen for the Thing of this segment
 abbrev pub is_left_out : List (List ℕ) → List Choice → List ℕ → List ℕ → Bool
 is_left_out texts choices segment place = is_among place texts && not (is_chosen choices segment place)
 

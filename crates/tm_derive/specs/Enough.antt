@@ -1,4 +1,4 @@
--- That the room of a derivation is enough: with more room nothing changes.
+-- The room of a derivation is enough: with more room nothing changes.
 use Rattle.std.specs.Prelude.{◌≡◌, ◌≤◌, ℕ, List, [], Ok}
 use Rattle.wot_json.specs.Tree.{Json}
 use Rattle.tm_parts.specs.Sources.{Sources}
@@ -12,8 +12,8 @@ abbrev pub MoreThingsChangeNothing : Type 0
 MoreThingsChangeNothing =
     (given : Given) (root : List ℕ) (room : ℕ) → most_below ≤ room → outcomes_within room given [] (root_place given.frame root) ≡ outcomes given root
 
--- What is optional in a model that has a value, and what is faulty of that, is what it is said to be, however many more
--- models may be gone through of which each extends the next.
+-- The optional parts of a model that has a value, and the faults of those, stay the same, however many more models may
+-- be gone through of which each extends the next.
 abbrev pub MoreModelsChangeNothing : Type 0
 MoreModelsChangeNothing =
     (sources : Sources) (url : List ℕ) (value : Json) (room : ℕ) → most_below ≤ room → resolved_from sources url ≡ Ok value

@@ -1,5 +1,5 @@
--- What a Thing Model's value becomes as the description of a Thing that this servient serves (Thing Description 1.1,
--- section "Thing Model", derivation): merge patches (RFC 7396) on it, and the forms that the servient generates.
+-- A Thing Model's value becomes the description of a Thing that this servient serves (Thing Description 1.1, section
+-- "Thing Model", derivation) by merge patches (RFC 7396) on it, and by the forms that the servient generates.
 use Rattle.std.specs.Prelude.{◌+◌, ◌==◌, not, Bool, ℕ, List, [], ◌∷◌, ◌++◌, map, filter, codes, Option, Some, None, is_none, option_and_then, if◌then◌else◌}
 use Rattle.std.specs.List.{list_any, list_all}
 use Rattle.wot_json.specs.Tree.{Json, null, string, array, object, elements_of, members_of}

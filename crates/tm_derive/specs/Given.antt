@@ -1,4 +1,4 @@
--- What a derivation is given.
+-- The inputs of a derivation.
 use Rattle.std.specs.Prelude.{ℕ, ◌+◌, List}
 use Rattle.tm_parts.specs.Library.{Models}
 use Rattle.tm_parts.specs.Sources.{Sources}
@@ -9,7 +9,7 @@ use Rattle.tm_derive.specs.declared.frame.Frame.{Frame}
 abbrev pub Choice : Type 0
 Choice = List ℕ × List ℕ
 
--- What is the same for all Things of a derivation: the models of the library, the same models with values in place of
+-- The inputs that all Things of a derivation share: the models of the library, the same models with values in place of
 -- their placeholders, the choices, and the frame, which names the root and says where the forms of all Things lead.
 pub record Given : Type 0 where
   pub models : Models
@@ -19,6 +19,6 @@ pub record Given : Type 0 where
 
 -- The most Things one below another, and more than the most models each of which extends the next. An expansion that
 -- isn't too large has chains of at most 16 targets. One more Thing may be at the end, whose model has a fault of its
--- placeholders: that isn't visited, and has no Things below it. That this is always enough is a law (Enough.antt).
+-- placeholders: that isn't visited, and has no Things below it. This is always enough, by a law (Enough.antt).
 unfoldable pub most_below : ℕ
 most_below = most_entries + 1

@@ -1,4 +1,4 @@
--- What the code says that makes Things.
+-- The answers of the code that makes Things.
 use Rattle.std.specs.Prelude.{◌≡◌, ◌⊎◌, ◌++◌, ℕ, List, [], map, Some, Result, Ok, Err}
 use Rattle.std.specs.Global.{Vec}
 use Rattle.std.specs.List.{flat_map}

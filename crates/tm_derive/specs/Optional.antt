@@ -1,5 +1,5 @@
--- What is optional in a model: its member `tm:optional`, a list of pointers to affordances (Thing Description 1.1,
--- section "Thing Model", optional affordances).
+-- The optional affordances of a model: its member `tm:optional`, a list of pointers to affordances (Thing Description
+-- 1.1, section "Thing Model", optional affordances).
 use Rattle.std.specs.Prelude.{◌+◌, ◌==◌, ◌&&◌, ◌||◌, nat_eq, not, Bool, false, ℕ, zero, suc, List, [], ◌∷◌, ◌++◌, length, drop, codes, Option, Some, None, if◌then◌else◌}
 use Rattle.std.specs.List.{flat_map, list_any, starts_with}
 use Rattle.std.specs.Str.{bytes_eq}
@@ -75,7 +75,7 @@ base_of links = None
 abbrev pub base_url : Sources → List ℕ → Option (List ℕ)
 base_url sources url = base_of (model_links sources url (codes "tm:extends"))
 
--- what is said of the base, where there is one
+-- the texts of the base, where there is one
 abbrev pub of_base : (List ℕ → List (List ℕ)) → Option (List ℕ) → List (List ℕ)
 of_base said None = []
 of_base said (Some base) = said base

@@ -1,4 +1,4 @@
--- What the code says that looks for faults.
+-- The answers of the code that looks for faults.
 use Rattle.std.specs.Prelude.{◌≡◌, ◌⊎◌, ◌++◌, true, false, ℕ, List, [], ◌∷◌, Option, Some, None, Result, Ok, Err}
 use Rattle.wot_json.specs.Tree.{Json, string}
 use Rattle.tm_parts.specs.Placeholders.{first_of}

@@ -1,4 +1,4 @@
-//! What is the same for all Things of a derivation.
+//! The inputs that all Things of a derivation share.
 
 use crate::choices::Choices;
 use crate::frame::Frame;
@@ -6,7 +6,7 @@ use std::alloc::Global;
 use tm_parts::Library;
 use tm_resolve::Resolver;
 
-/// What is the same for all Things of a derivation.
+/// The inputs that all Things of a derivation share.
 #[derive(Drop)]
 pub(crate) struct Common<'a> {
     pub(crate) alloc: Global,

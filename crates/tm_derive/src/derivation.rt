@@ -65,7 +65,8 @@ pub fn derive(
     derive_with(&common, root)
 }
 
-/// The same, with what is the same for all Things.
+/// The same, with the inputs that all Things share. They are lent, because a function that owned them would give them
+/// up at each `?`.
 fn derive_with(common: &Common<'_>, root: &str) -> Result<Things, DeriveFault>
     ensures { Derives (things_or_fault common.now.choices.now (outcomes (given_of common.now) root.now)) result }
 {
@@ -117,7 +118,7 @@ fn judge_elsewhere(
 }
 
 /// Puts a Thing and those that it is composed of at the end, below Things of these models, where `room` more may be
-/// one below another.
+/// one below another. `room` falls with each, so that the check sees that the recursion ends.
 #[cycle(put_thing)]
 fn put_thing(
     common: &Common<'_>,

@@ -12,7 +12,7 @@ use servient_base::NoMemory;
 use std::alloc::Global;
 use wot_json::{Members, Text, Tree, below, merge_patch};
 
-/// What is optional for a Thing, and all choices.
+/// The optional affordances of a Thing, and all choices.
 #[derive(Drop)]
 pub(crate) struct Selection<'a> {
     pub(crate) segment: &'a str,
@@ -20,7 +20,7 @@ pub(crate) struct Selection<'a> {
     pub(crate) choices: &'a [(Text, Text)],
 }
 
-/// What is at this place is optional and wasn't chosen.
+/// The affordance at this place is optional and wasn't chosen.
 fn is_left_out(selection: &Selection<'_>, place: &str) -> bool
     ensures { result ≡ is_out selection.now place.now }
 {

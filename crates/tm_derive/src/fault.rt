@@ -1,4 +1,4 @@
-//! Why a model is not derived.
+//! The reasons for which a model is not derived.
 
 use std::alloc::AllocError;
 use thiserror::Error;
@@ -6,7 +6,7 @@ use tm_resolve::ResolveFault;
 use wot_json::Text;
 use wot_terms::TdFault;
 
-/// Why a model is not derived. Each fault has the segment of its Thing first.
+/// The reason for which a model is not derived. Each fault has the segment of its Thing first.
 #[derive(Debug, Drop, Error)]
 pub enum DeriveFault {
     /// Its model has no value, or a link of its model leads to no submodel that it may have.

@@ -1,4 +1,4 @@
-//! What makes a description of a model's value: merge patches (RFC 7396), and the forms that are generated.
+//! A model's value becomes a description by merge patches (RFC 7396), and by the forms that are generated.
 
 ghost use Rattle.std.specs.Prelude.{◌≡◌, [], ◌∷◌, codes, filter, not, option_map, option_and_then, IfOk};
 ghost use Rattle.wot_json.specs.Meaning.{json_of, json_items};
@@ -16,7 +16,7 @@ use std::alloc::Global;
 use wot_forms::generate;
 use wot_json::{Items, Members, Text, Tree, copy, merge_patch};
 
-/// What a description says of a Thing among others.
+/// The place of a Thing among others, as its description says it.
 #[derive(Drop)]
 pub(crate) struct Setting<'a> {
     pub(crate) frame: &'a Frame,

@@ -1,9 +1,9 @@
-//! What a derivation is given besides the models: names, ids and addresses of its Things.
+//! The inputs of a derivation besides the models: names, ids and addresses of its Things.
 
 use wot_forms::Bases;
 use wot_json::Text;
 
-/// What the root Thing is called, and where it and the Things that it is composed of are served.
+/// The names of the root Thing, and the addresses at which it and the Things that it is composed of are served.
 #[derive(Debug, Drop)]
 pub struct Frame {
     /// The segment of the root in the paths of its URLs. A Thing below another has the segment of that, `~`, and its
@@ -11,7 +11,7 @@ pub struct Frame {
     pub segment: Text,
     /// The `id` of the root. A Thing below another has the id of that, `~`, and its instance name.
     pub id: Text,
-    /// What the URLs of the forms begin with.
+    /// The bases with which the URLs of the forms begin.
     pub bases: Bases,
     /// The `instance` of a `version` that has none (Thing Description 1.1, section 5.3.1.6).
     pub instance: Option<Text>,

@@ -1,4 +1,4 @@
-//! What is wrong with the description of a Thing: a placeholder that is left, or a condition that isn't met.
+//! The faults of the description of a Thing: a placeholder that is left, or a condition that isn't met.
 
 ghost use Rattle.std.specs.Prelude.{◌≡◌, ◌⊎◌};
 ghost use Rattle.wot_json.specs.Meaning.{json_of};
@@ -40,7 +40,7 @@ fn judge_terms(alloc: Global, segment: &str, tree: &Tree) -> Result<(), DeriveFa
     }
 }
 
-/// That a placeholder is left.
+/// The fault of a placeholder that is left.
 fn unbound_fault(alloc: Global, segment: &str, name: Text, pointer: Text) -> DeriveFault
     ensures { (result ≡ DeriveFault.NoMemory) ⊎ (result ≡ DeriveFault.Unbound segment.now name pointer) }
 {
@@ -50,7 +50,7 @@ fn unbound_fault(alloc: Global, segment: &str, name: Text, pointer: Text) -> Der
     }
 }
 
-/// That a condition isn't met.
+/// The fault of a condition that isn't met.
 fn invalid_fault(alloc: Global, segment: &str, fault: TdFault) -> DeriveFault
     ensures { (result ≡ DeriveFault.NoMemory) ⊎ (result ≡ DeriveFault.Invalid segment.now fault) }
 {

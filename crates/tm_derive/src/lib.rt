@@ -26,8 +26,8 @@
 //! `derive` makes the description of a Thing of its model, and of each Thing that it is composed of by links to
 //! submodels: resolved, with the optional affordances that are chosen, with links among the Things and with the forms
 //! that a servient serves. Where anything is wrong it names the first fault and the Thing that has it. The contract in
-//! a sentence: it answers what `derived` of specs/Derivation.antt says, or is out of memory. That the room which that takes for
-//! Things one below another is always enough is a law (`specs/Enough.antt`).
+//! a sentence: it answers what `derived` of specs/Derivation.antt says, or is out of memory. The room which that takes
+//! for Things one below another is always enough, by a law (`specs/Enough.antt`).
 #![tactic(auto)]
 
 mod changes;

@@ -156,7 +156,7 @@ fn thing_link(alloc: Global, bases: &Bases, relation: &str, segment: &str) -> Re
     link(alloc, href, relation, "application/td+json")
 }
 
-/// Where the description of the Thing of this segment is read.
+/// The URL at which the description of the Thing of this segment is read.
 fn description_url(alloc: Global, bases: &Bases, segment: &str) -> Result<Text, NoMemory>
     ensures { IfOk result (λ t. t ≡ spec.description_url bases.now segment.now) }
 {

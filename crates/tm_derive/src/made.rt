@@ -1,4 +1,4 @@
-//! What is made of one Thing.
+//! The outcome of one Thing.
 
 use crate::place::Place;
 use wot_json::Tree;

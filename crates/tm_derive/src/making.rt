@@ -89,7 +89,7 @@ fn resolved(common: &Common<'_>, place: &Place) -> Result<Tree, DeriveFault>
     }
 }
 
-/// That the model of a Thing has no value.
+/// The fault of a Thing whose model has no value. It is a function, because the fault of the model moves into it.
 fn no_value(common: &Common<'_>, place: &Place, fault: ResolveFault) -> DeriveFault
     ensures memory { fault ≡ ResolveFault.NoMemory → result ≡ DeriveFault.NoMemory }
     ensures fault { (result ≡ DeriveFault.NoMemory) ⊎ (result ≡ DeriveFault.Resolve place.now.segment fault) }

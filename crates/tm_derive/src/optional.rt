@@ -1,4 +1,4 @@
-//! What is optional in a model, and what of it is chosen.
+//! The optional affordances of a model, and the choices among them.
 
 ghost use Rattle.std.specs.Prelude.{◌≡◌, ◌⊎◌, ◌++◌, [], ◌∷◌, map, option_map, IfOk, OnOk};
 ghost use Rattle.std.specs.List.{flat_map};
@@ -179,7 +179,7 @@ fn entry_text(entry: &Tree) -> Option<&str>
     }
 }
 
-/// That an entry is faulty.
+/// The fault of an entry.
 fn entry_fault(alloc: Global, segment: &str, index: usize) -> DeriveFault
     ensures { (result ≡ DeriveFault.NoMemory)
         ⊎ (result ≡ DeriveFault.Optional segment.now (spec.optional_place ++ element_step_text index)) }

@@ -16,7 +16,7 @@ fn copies(alloc: Global, first: &str, second: &str) -> Result<(Text, Text), NoMe
     Ok((Text::copy_of(alloc, first)?, Text::copy_of(alloc, second)?))
 }
 
-/// That a pointer of a Thing, or a choice for it, is faulty.
+/// The fault of a pointer of a Thing, or of a choice for it.
 pub(crate) fn optional_fault(alloc: Global, segment: &str, pointer: &str) -> DeriveFault
     ensures { (result ≡ DeriveFault.NoMemory) ⊎ (result ≡ DeriveFault.Optional segment.now pointer.now) }
 {
@@ -36,7 +36,7 @@ fn link_copies(alloc: Global, segment: &str, index: usize) -> Result<(Text, Text
     ))
 }
 
-/// That a link has no name that an instance may have.
+/// The fault of a link that has no name that an instance may have.
 pub(crate) fn instance_fault(alloc: Global, segment: &str, index: usize) -> DeriveFault
     ensures { (result ≡ DeriveFault.NoMemory) ⊎ (result ≡ DeriveFault.Instance segment.now (link_place index)) }
 {
@@ -46,7 +46,7 @@ pub(crate) fn instance_fault(alloc: Global, segment: &str, index: usize) -> Deri
     }
 }
 
-/// That a link has the name of an earlier one.
+/// The fault of a link that has the name of an earlier one.
 pub(crate) fn twice_fault(alloc: Global, segment: &str, index: usize) -> DeriveFault
     ensures { (result ≡ DeriveFault.NoMemory) ⊎ (result ≡ DeriveFault.TwiceInstance segment.now (link_place index)) }
 {
@@ -56,7 +56,7 @@ pub(crate) fn twice_fault(alloc: Global, segment: &str, index: usize) -> DeriveF
     }
 }
 
-/// That a link of a model leads to no submodel.
+/// The fault of a link of a model that leads to no submodel.
 pub(crate) fn resolve_fault(
     alloc: Global,
     segment: &str,

@@ -116,7 +116,7 @@ fn child_place(alloc: Global, place: &Place, name: &str, url: &str) -> Result<Pl
     })
 }
 
-/// What all links of a model are judged with.
+/// The values with which all links of a model are judged.
 #[derive(Drop)]
 pub(crate) struct Parent<'a> {
     pub(crate) alloc: Global,
@@ -196,7 +196,7 @@ fn child_of(
     }
 }
 
-/// That a link leads to no submodel that the Thing may have.
+/// The fault of a link that leads to no submodel that the Thing may have.
 fn target_fault(parent: &Parent<'_>, kind: ResolveKind, index: usize) -> DeriveFault
     ensures { (result ≡ DeriveFault.NoMemory) ⊎ (result ≡ DeriveFault.Resolve parent.now.place.now.segment
         (ResolveFault.At kind parent.now.place.now.model (place_of_link index))) }

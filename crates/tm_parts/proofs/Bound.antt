@@ -1,4 +1,4 @@
--- How the map of bound values answers while bindings are put into it, the last first.
+-- The answers of the map of bound values while bindings are put into it, the last first.
 use Rattle.std.proofs.Common.{◌≡◌, ℕ, List, [], ◌∷◌, ◌++◌, sym, ap, ◌∙◌, cond, length, arith, Bor}
 use Rattle.std.specs.Prelude.{Option, Some, String, string_bytes}
 use Rattle.std.specs.List.{push}
@@ -21,7 +21,7 @@ last_put : (name : List ℕ) (left : List (List ℕ × Json)) (m : List ℕ × J
 last_put name [] m others = found_with name m.0 m.1 others
 last_put name (x ∷ left) m others = ap (λ (r : Option Json). cond (bytes_eq name x.0) (Some x.1) r) (last_put name left m others)
 
--- what is bound once the last that was left is in the map
+-- the value that is bound once the last that was left is in the map
 pub bound_more : (name : List ℕ) (rest now : List (List ℕ × Tree)) (x : List ℕ × Tree) (entries after : List (String Global × Bor Tree)) (key : String Global) (value : Bor Tree) (whole : Option Json)
     → rest ≡ push now x → after ≡ insert_entry string_cmp entries key value → string_bytes key ≡ x.0 → value.now ≡ x.1
     → bound_value name (json_members rest ++ kept_values entries) ≡ whole → bound_value name (json_members now ++ kept_values after) ≡ whole

@@ -1,4 +1,4 @@
--- How the pieces of a text follow from what it begins with.
+-- The pieces of a text follow from its beginning.
 use Rattle.std.proofs.Common.{◌≡◌, ℕ, zero, suc, ◌+◌, ◌<◌, ◌≤◌, List, [], ◌∷◌, ◌++◌, length, take, drop, refl, sym, ap, subst, ◌∙◌, arith, Bool, true, false, cond, append_assoc, length-append, inl, inr}
 use Rattle.std.specs.Prelude.{Option, Some, None, map, ◌&&◌, not, ◌==◌, nat_lt, nat_le}
 use Rattle.std.proofs.lemmas.Grind.{flat_map-append}
@@ -78,7 +78,7 @@ placeholder_not_at_prefix text h =
     ] in
     placeholder_at_is text ∙ ap (λ (t : Bool). cond t (Some name) None) test
 
--- what a text begins with, where a placeholder begins it
+-- the beginning of a text, where a placeholder begins it
 pub placeholder_at_gives : (text name : List ℕ) → placeholder_at text ≡ Some name → (is_name name ≡ true) × (text ≡ placeholder_text name ++ drop (length name + 4) text)
 placeholder_at_gives text name h =
     let found : List ℕ = take_while is_name_byte (drop 2 text) in

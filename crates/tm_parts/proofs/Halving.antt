@@ -1,4 +1,4 @@
--- What a binary search finds among values whose names ascend.
+-- Binary search among values whose names ascend, and the value that it finds.
 use Rattle.std.proofs.Common.{◌≡◌, ℕ, zero, suc, ◌+◌, ◌<◌, List, [], ◌∷◌, length, get_or, map, refl, sym, ap, inl, inr, ◌∙◌, arith, cond}
 use Rattle.std.specs.Prelude.{Option, Some, None, false}
 use Rattle.std.specs.Str.{bytes_eq}
@@ -45,7 +45,7 @@ earlier_before name_of (x ∷ xs) ascend i zero d below within = absurd (omega a
 earlier_before name_of (x ∷ xs) ascend zero (suc j) d below within = first_before name_of x xs ascend j d (omega arith)
 earlier_before name_of (x ∷ xs) ascend (suc i) (suc j) d below within = earlier_before name_of xs (rest_ascend name_of x xs ascend) i j d (omega arith) (omega arith)
 
--- how a name compares to the one that is looked for
+-- the order of a name to the one that is looked for
 abbrev pub order_of : {X : Type 0} → (X → List ℕ) → List ℕ → X → Ordering
 order_of name_of name x = slice_cmp nat_cmp (name_of x) name
 
@@ -54,11 +54,11 @@ comparisons_rise : {X : Type 0} (name_of : X → List ℕ) (xs : List X) (name :
 comparisons_rise name_of xs name ascend = searchable_from_sorted nat_list_cmp_total name_of xs name
     (λ k d low within. ap is_lt (nat_list_cmp_total.antisymm (name_of (get_or xs (k + 1) d)) (name_of (get_or xs k d)) ∙ ap ordering_reverse (earlier_before name_of xs ascend k (k + 1) d (omega arith) within)))
 
--- how the name tests against one that it compares to
+-- the test of the name against one that it compares to
 eq_from_cmp : (other name : List ℕ) (o : Ordering) → slice_cmp nat_cmp other name ≡ o → bytes_eq name other ≡ is_eq (ordering_reverse o)
 eq_from_cmp other name o is = sym (is_eq-slice_cmp name other) ∙ ap is_eq (nat_list_cmp_total.antisymm name other ∙ ap ordering_reverse is)
 
--- what is at a place with this name is found
+-- the value at a place with this name is found
 found_at : {X V : Type 0} (name_of : X → List ℕ) (value_of : X → V) (xs : List X) (name : List ℕ) (k : ℕ) (d : X) → Ascend name_of xs → k < length xs → order_of name_of name (get_or xs k d) ≡ Equal
     → Some (value_of (get_or xs k d)) ≡ first_under name (map (λ x. (name_of x, value_of x)) xs)
 found_at name_of value_of [] name k d ascend within same = absurd (omega arith)

@@ -1,5 +1,5 @@
--- How a map by texts answers, in terms of the list of the values that it keeps: each entry's
--- value is seen by a function.
+-- The answers of a map by texts, in terms of the list of the values that it keeps: each entry's value is seen by a
+-- function.
 use Rattle.std.proofs.Common.{◌≡◌, ℕ, List, [], ◌∷◌, map, refl, sym, ap, subst, rules, ◌∙◌, Bool, true, false, cond}
 use Rattle.std.specs.Prelude.{Option, Some, None, option_map, is_some, IsSome, String, string_bytes}
 use Rattle.std.specs.Str.{bytes_eq}
@@ -76,7 +76,7 @@ first_counts : (b : Bool) (x y : Json) (r : Option Json) → cond b (Some x) r �
 first_counts true x y r = refl
 first_counts false x y r = refl
 
--- what is under a name once a value was put under another, or under the same
+-- the value under a name once a value was put under another, or under the same
 pub found_with : (name other : List ℕ) (v : Json) (ms : List (List ℕ × Json)) → member_named name (with_model other v ms) ≡ cond (bytes_eq name other) (Some v) (member_named name ms)
 found_with name other v [] = refl
 found_with name other v (m ∷ ms) =

@@ -1,4 +1,4 @@
--- How the library's map answers, in terms of the list of models.
+-- The answers of the library's map, in terms of the list of models.
 use Rattle.std.proofs.Common.{◌≡◌, ℕ, List, refl, sym, ap, ◌∙◌, Bool, true, false}
 use Rattle.std.specs.Prelude.{Option, Some, None, option_map, option_copied, is_some, IsSome, codes, String, string_bytes}
 use Rattle.std.proofs.Common.{Bor}
@@ -19,7 +19,7 @@ use Rattle.tm_parts.specs.Library.{with_model, thing_model, is_thing_model}
 use Rattle.tm_parts.proofs.Maps.{found, inserted, none_found, some_found}
 use Rattle.wot_json.specs.declared.tree.Tree.TheVariants as tree
 
--- what a lookup lends, by value
+-- the model that a lookup lends, by value
 pub lent_value : (r : Option (Bor Tree)) → option_map (λ t. json_of t.now) r ≡ option_map json_of (option_copied r)
 lent_value None = refl
 lent_value (Some t) = refl

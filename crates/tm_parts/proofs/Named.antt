@@ -27,7 +27,7 @@ name_of bound = string_bytes bound.0
 abbrev pub value_of : Bound → Json
 value_of bound = json_of bound.1.now
 
--- what is found under a name is what is bound to it
+-- the value found under a name is the one bound to it
 pub bound_is_found : (name : List ℕ) (list : List (List ℕ × Json)) → first_under name list ≡ bound_value name list
 bound_is_found name [] = refl
 bound_is_found name (b ∷ bs) = ap (λ (r : Option Json). cond (bytes_eq name b.0) (Some b.1) r) (bound_is_found name bs)

@@ -1,4 +1,4 @@
--- What the code finds at the prefix of a text, step by step.
+-- The code's findings at the prefix of a text, step by step.
 use Rattle.std.proofs.Common.{◌≡◌, ℕ, suc, ◌+◌, ◌<◌, ◌≤◌, List, [], ◌∷◌, ◌++◌, length, take, drop, refl, sym, ap, subst, ◌∙◌, arith, Bool, true, false, cond, append_assoc, length-append, inl, inr, get_or}
 use Rattle.std.specs.Prelude.{None, map, ◌&&◌, not, ◌==◌, nat_lt, nat_le}
 use Rattle.std.specs.List.{list_all, prefix_len, take_while, position_or_len}
@@ -105,7 +105,7 @@ placeholder_in_parts text inner name after rest is name_is after_is end some few
     let whole : inner ≡ (name ++ 125 ∷ 125 ∷ []) ++ rest = split ∙ ap (λ (b : List ℕ). name ++ b) end ∙ sym (append_assoc name (125 ∷ 125 ∷ []) rest) in
     (is ∙ ap (λ (xs : List ℕ). 123 ∷ 123 ∷ xs) whole, named)
 
--- what is left after a placeholder
+-- the rest after a placeholder
 pub after_placeholder : (text name rest : List ℕ) → text ≡ placeholder_text name ++ rest → rest ≡ drop (length name + 4) text
 after_placeholder text name rest is =
     let count : length name + 4 ≡ length (placeholder_text name) = omega (arith, length-append name (125 ∷ 125 ∷ [])) in

@@ -1,4 +1,4 @@
--- How the value of a view follows from what the code finds.
+-- The value of a view follows from the code's findings.
 use Rattle.std.proofs.Common.{◌≡◌, ℕ, ◌+◌, ◌-◌, ◌≤◌, List, [], ◌∷◌, ◌++◌, length, take, refl, sym, ap, subst, ◌∙◌, Bool, true, false, cond, arith, length-append}
 use Rattle.std.specs.Prelude.{Option, Some, None, option_map, option_and_then}
 use Rattle.std.specs.List.{flat_map}
@@ -104,14 +104,14 @@ no_step step w other = sym (ap (λ (b : Bool). cond b (value_at (tokens_in step)
 
 -- ---- pieces
 
--- what is seen of a text, from its first pieces on
+-- the view of a text, from its first pieces on
 pub seen_cut : (values : Values) (text rest : List ℕ) (ps : List Piece) (shown : List ℕ) → pieces text ≡ ps ++ pieces rest → flat_map (piece_text values) ps ≡ shown
     → flat_map (piece_text values) (pieces text) ≡ shown ++ flat_map (piece_text values) (pieces rest)
 seen_cut values text rest ps shown cut is =
     ap (flat_map (piece_text values)) cut ∙ flat_map-append (piece_text values) ps (pieces rest)
     ∙ ap (λ (bytes : List ℕ). bytes ++ flat_map (piece_text values) (pieces rest)) is
 
--- what is written of a text before its last pieces
+-- the part of a text before its last pieces
 pub written_before : (text rest : List ℕ) (ps : List Piece) → pieces text ≡ ps ++ pieces rest → text ≡ flat_map (piece_text []) ps ++ rest
 written_before text rest ps cut =
     sym (unread_text text) ∙ ap (flat_map (piece_text [])) cut ∙ flat_map-append (piece_text []) ps (pieces rest)

@@ -1,4 +1,4 @@
--- Which model a binary search finds among those whose URLs ascend.
+-- Binary search among models whose URLs ascend, and the model that it finds.
 use Rattle.std.proofs.Common.{◌≡◌, ℕ, ◌<◌, List, [], ◌∷◌, length, get_or, refl, ap, ◌∙◌, cond}
 use Rattle.std.specs.Prelude.{Option, Some, None, Result}
 use Rattle.std.specs.Str.{bytes_eq}
@@ -19,7 +19,7 @@ use Rattle.tm_parts.proofs.Halving as halving
 abbrev pub url_of : Prepared → List ℕ
 url_of m = m.location
 
--- what is under a URL is the first value there
+-- the value under a URL is the first one there
 value_named : (url : List ℕ) (sources : Sources) → first_under url sources ≡ source_named url sources
 value_named url [] = refl
 value_named url (s ∷ ss) = ap (λ (r : Option (Result Json PartFault)). cond (bytes_eq url s.0) (Some s.1) r) (value_named url ss)

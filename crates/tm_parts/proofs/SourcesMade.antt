@@ -1,4 +1,4 @@
--- What is made of a library's models, one after another.
+-- The sources that are made of a library's models, one after another.
 use Rattle.std.proofs.Common.{◌≡◌, ℕ, List, [], ◌∷◌, ◌++◌, map, refl, ap, sym, subst, ◌∙◌, append_assoc}
 use Rattle.std.specs.Prelude.{Some, None, Result, Ok, Err, String, string_bytes}
 use Rattle.std.specs.Cmp.Lexicographic.{slice_cmp}
@@ -28,7 +28,7 @@ use Rattle.tm_parts.proofs.Alike.{values_alike, faults_alike}
 abbrev pub Entries : Type 0
 Entries = List (String Global × Tree)
 
--- what is made of the first model that is left goes after what was made
+-- the source of the first model that is left goes after those that were made
 pub sources_more : (made grown : List Prepared) (p : Prepared) (left rest : Entries) (e : String Global × Tree) (values : Values) (whole : Sources) → left ≡ e ∷ rest
     → prepared_sources made values ++ sources_of (kept_models left) values ≡ whole → grown ≡ made ++ p ∷ []
     → p.location ≡ string_bytes e.0 → prepared_source p values ≡ substitution (json_of e.1) values → prepared_sources grown values ++ sources_of (kept_models rest) values ≡ whole

@@ -1,4 +1,4 @@
--- How a place is walked step by step.
+-- The walk to a place, step by step.
 use Rattle.std.proofs.Common.{◌≡◌, ℕ, suc, ◌+◌, ◌<◌, ◌≤◌, List, [], ◌∷◌, ◌++◌, length, take, drop, refl, sym, ap, subst, ◌∙◌, Bool, true, false, cond, arith, inl, inr, append-nil}
 use Rattle.std.specs.Prelude.{Option, Some, None, option_and_then, ◌==◌, ◌&&◌, not, ◌⊎◌}
 use Rattle.std.specs.List.{position_or_len}

@@ -1,4 +1,4 @@
--- What pieces become in a text.
+-- The text that is made of pieces.
 use Rattle.std.proofs.Common.{◌≡◌, ℕ, List, [], ◌∷◌, map, refl, ap}
 use Rattle.std.specs.List.{flat_map}
 use Rattle.tm_parts.specs.Placeholders.{plain}

@@ -1,4 +1,4 @@
--- What is not read stays as it is: a value where nothing is bound, and a text that is no bound placeholder.
+-- Two things stay as they are: a value where nothing is bound, and a text that is no bound placeholder.
 use Rattle.std.proofs.Common.{◌≡◌, ℕ, zero, suc, ◌+◌, List, [], ◌∷◌, ◌++◌, length, drop, refl, sym, ap, ◌∙◌, arith}
 use Rattle.std.specs.Prelude.{Option, Some, None, unwrap_or, option_and_then}
 use Rattle.std.specs.List.{flat_map}

@@ -11,7 +11,7 @@ use Rattle.tm_parts.specs.References.{pointer_written}
 use Rattle.tm_parts.specs.declared.reference.RefFault.{RefFault}
 use Rattle.tm_parts.specs.declared.reference.RefFault.TheVariants.{NoMemory}
 
--- what a fragment writes follows from two tests of its decoded bytes
+-- the pointer that a fragment writes follows from two tests of its decoded bytes
 by_tests : (fragment : List ℕ) (text pointer : Bool) → is_utf8 (percent_decode fragment) ≡ text → is_pointer (percent_decode fragment) ≡ pointer
     → pointer_written fragment ≡ cond (text && pointer) (Some (percent_decode fragment)) None
 by_tests fragment text pointer text_is pointer_is =

@@ -1,4 +1,4 @@
--- What contracts see of the types of the code.
+-- The types of the code, as contracts see them.
 use Rattle.std.specs.Prelude.{ℕ, List, map, String, string_bytes}
 use Rattle.std.specs.declared.alloc.Global.{Global}
 use Rattle.std.proofs.Common.{Bor}

@@ -31,7 +31,7 @@ abbrev pub is_thing_model : Json → Bool
 is_thing_model (object ms) = elim (member_named (codes "@type") (member_list ms)) [ None ↦ false | Some types ↦ has_text thing_model types ]
 is_thing_model v = false
 
--- why a library takes no model: the first of these that holds
+-- the reason for which a library takes no model: the first of these that holds
 abbrev pub HasAddFault : AddFault → List ℕ → Json → Models → Type 0
 HasAddFault BadUrl url model models = ¬ (IsModelUrl url)
 HasAddFault Twice url model models = IsModelUrl url × IsSome (member_named url models)

@@ -1,4 +1,4 @@
--- What contracts see of the models that were made ready to be entered.
+-- The models that were made ready to be entered, as contracts see them.
 use Rattle.std.specs.Prelude.{ℕ, List, map, Some, None, Result, Ok, Err}
 use Rattle.wot_json.specs.Tree.{Json}
 use Rattle.wot_json.specs.Meaning.{json_of}

@@ -14,11 +14,11 @@ use Rattle.tm_parts.specs.declared.reference.Reference.{Reference}
 abbrev pub is_mark : ℕ → Bool
 is_mark b = b == 35
 
--- what comes before the first `#`: the location of the model
+-- the part before the first `#`: the location of the model
 abbrev pub location_of : List ℕ → List ℕ
 location_of text = before_first is_mark text
 
--- what comes after the first `#`
+-- the part after the first `#`
 abbrev pub fragment_of : List ℕ → List ℕ
 fragment_of text = after_first is_mark text
 

@@ -9,7 +9,7 @@ use Rattle.tm_parts.specs.Views.{seen}
 use Rattle.tm_parts.specs.declared.sources.Source.{Source}
 use Rattle.tm_parts.specs.declared.substitution.PartFault.{PartFault}
 
--- what a model is with these values: itself with the values in place of its placeholders, or the first fault of that
+-- a model with these values: itself with the values in place of its placeholders, or the first fault of that
 abbrev pub substitution : Json → Values → Result Json PartFault
 substitution model values = elim (first_of (faults_of model values)) as (λ _. Result Json PartFault) [ None ↦ Ok (substituted_value model values) | Some fault ↦ Err fault ]
 
@@ -21,7 +21,7 @@ Sources = List (List ℕ × Result Json PartFault)
 abbrev pub sources_of : Models → Values → Sources
 sources_of models values = map (λ m. (m.0, substitution m.1 values)) models
 
--- what is under this URL first, where anything does
+-- the first model under this URL, where there is one
 abbrev pub source_named : List ℕ → Sources → Option (Result Json PartFault)
 source_named url [] = None
 source_named url (s ∷ ss) = if bytes_eq url s.0 then Some s.1 else source_named url ss

@@ -19,7 +19,7 @@ bound_value name values = member_named name values
 
 -- ---- one text
 
--- what a value puts into a text: a text itself, and any other value nothing
+-- the text that a value puts into a text: a text itself, and any other value nothing
 abbrev pub put_text : Json → List ℕ
 put_text (string s) = s
 put_text v = []
@@ -29,8 +29,8 @@ abbrev pub put_faults : List ℕ → Json → List PartFault
 put_faults name (string s) = []
 put_faults name v = NotText name ∷ []
 
--- what a piece of a text becomes: a plain byte itself, a placeholder's value, and an unbound placeholder as
--- it is written
+-- the text of a piece of a text: a plain byte itself, a placeholder's value, and an unbound placeholder as it is
+-- written
 abbrev pub piece_text : Values → Piece → List ℕ
 piece_text values (plain b) = b ∷ []
 piece_text values (placeholder name) = elim (bound_value name values) [ None ↦ placeholder_text name | Some v ↦ put_text v ]
@@ -40,8 +40,8 @@ abbrev pub piece_faults : Values → Piece → List PartFault
 piece_faults values (plain b) = []
 piece_faults values (placeholder name) = elim (bound_value name values) [ None ↦ [] | Some v ↦ put_faults name v ]
 
--- What a text becomes: where it is exactly one placeholder, the value that is bound to that, of any type, and
--- else a text.
+-- The value of a text: where it is exactly one placeholder, the value that is bound to that, of any type, and else a
+-- text.
 abbrev pub text_value : List ℕ → Values → Json
 text_value text values =
     elim (sole_placeholder (pieces text)) [

@@ -1,4 +1,4 @@
--- What contracts see of nodes that are seen with values in place of their placeholders.
+-- Nodes with values in place of their placeholders, as contracts see them.
 use Rattle.std.specs.Prelude.{◌≡◌, ℕ, List, [], Option, Some, None}
 use Rattle.std.proofs.Common.{Bor}
 use Rattle.std.specs.List.{flat_map}
@@ -37,7 +37,7 @@ seen_elements view = substituted_elements (elements_of (json_items view.items.no
 abbrev pub seen_members : ObjectView → Members
 seen_members view = substituted_members (members_of view.members.now) (values_in view.values)
 
--- what a node is
+-- the value of a node
 abbrev pub node_value : Node → Json
 node_value node.Null = null
 node_value (node.Bool b) = boolean b

@@ -12,7 +12,7 @@ use std::alloc::Global;
 use wot_json::{Items, Members, Text, Tree, copy};
 
 /// The model with the values in place of its placeholders. A text that is exactly one placeholder becomes the value, of
-/// any type, and into a longer text go texts alone. What a value brings in isn't read again.
+/// any type, and into a longer text go texts alone. The content of a value isn't read again.
 #[cycle(built)]
 pub(crate) fn built(alloc: Global, tree: &Tree, values: &Values<'_>) -> Result<Tree, NoMemory>
     ensures { IfOk result (λ t. json_of t ≡ substituted_value (json_of tree.now) values.now) }
@@ -52,7 +52,7 @@ fn built_members(alloc: Global, members: &Members, values: &Values<'_>) -> Resul
     Ok(built_list)
 }
 
-/// What a text becomes.
+/// The value of a text.
 #[tactic(auto, using(crate::proofs::Unread::built_unbound))]
 fn built_text<'a>(alloc: Global, text: &'a str, values: &'a Values<'a>) -> Result<Tree, NoMemory>
     ensures { IfOk result (λ t. json_of t ≡ text_value text.now values.now) }

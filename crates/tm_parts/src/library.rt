@@ -19,7 +19,7 @@ use wot_json::{Tree, has_text};
 /// The type that says that an object is a Thing Model.
 const THING_MODEL: &str = "tm:ThingModel";
 
-/// Why a library takes no model.
+/// The reason for which a library takes no model.
 #[derive(Debug, Drop, Error)]
 pub enum AddFault {
     /// The text is no URL, or it has a fragment.

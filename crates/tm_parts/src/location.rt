@@ -1,4 +1,4 @@
-//! Where a model is: the text of its URL, parsed once for all that is joined to it.
+//! The location of a model: the text of its URL, parsed once for all that is joined to it.
 
 ghost use Rattle.std.specs.Prelude.{◌≡◌, ◌⊎◌, Some, None, Ok, IfOk, IfErr, MatchOption};
 ghost use Rattle.servient_base.specs.Location.{joined_url, IsRefused};
@@ -58,7 +58,7 @@ impl Location {
         }
     }
 
-    /// Where a reference in the model at this location leads: `target` of its URL.
+    /// The target of a reference in the model at this location: `target` of its URL.
     pub fn target(&self, alloc: Global, text: &str) -> Result<Reference, RefFault>
         ensures ok { IfOk result (λ r. reference_target self.now text.now ≡ Some r) }
         ensures fault { IfErr result (λ e. (e ≡ RefFault.NoMemory) ⊎ (reference_target self.now text.now ≡ None)) }

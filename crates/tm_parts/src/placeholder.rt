@@ -15,7 +15,7 @@ fn is_name_byte(byte: u8) -> bool
     matches!(byte, b' '..=b'~') && byte != b'{' && byte != b'}'
 }
 
-/// How many bytes a text begins with that a name may have.
+/// The number of bytes at the beginning of a text that a name may have.
 fn name_length(text: &[u8]) -> usize
     ensures { result ≡ prefix_len may_be_in_name text.now }
 {
@@ -49,7 +49,7 @@ pub(crate) fn whole_placeholder(text: &str) -> Option<&str>
     if rest.is_empty() { Some(name) } else { None }
 }
 
-/// What a text begins with, cut no further.
+/// The beginning of a text, cut no further.
 #[derive(Clone, Copy, Debug)]
 pub(crate) enum Piece<'a> {
     /// Text without a placeholder.
@@ -75,7 +75,7 @@ pub(crate) fn first_piece(text: &str) -> (Piece<'_>, &str)
     }
 }
 
-/// How many bytes are before the first that is this one.
+/// The number of bytes before the first that is this one.
 pub(crate) fn length_before(stop: u8, text: &[u8]) -> usize
     ensures { result ≡ position_or_len (λ b. b == stop) text.now }
 {

@@ -11,7 +11,7 @@ use std::alloc::{AllocError, Global};
 use thiserror::Error;
 use wot_json::{Text, Tree, pointer};
 
-/// Where a reference leads.
+/// The target of a reference.
 #[derive(Debug, Drop)]
 pub struct Reference {
     /// The text of the model's URL.
@@ -20,11 +20,11 @@ pub struct Reference {
     pub pointer: Text,
 }
 
-/// Why a text leads nowhere.
+/// The reason for which a text leads nowhere.
 #[derive(Debug, Drop, Error)]
 pub enum RefFault {
-    /// The text has no `#`, can't be joined, or has no pointer after the `#`. Which of these isn't said, because both
-    /// halves are read before either is looked up.
+    /// The text has no `#`, can't be joined, or has no pointer after the `#`. These are one fault, because both halves
+    /// are read before either is looked up.
     #[error("no reference to a part of a model")]
     BadRef,
     /// Out of memory.
@@ -43,7 +43,7 @@ impl From<AllocError> for RefFault {
     }
 }
 
-/// Where a reference leads from the model of the URL `from`. The text is a location, the first `#`, and a
+/// The target of a reference from the model of the URL `from`. The text is a location, the first `#`, and a
 /// fragment. An empty location is the model itself, under the text that was handed in; another is joined to
 /// `from`, and is written as the URL Standard writes it. The fragment is percent-decoded, and is a JSON Pointer
 /// (RFC 6901, section 6).

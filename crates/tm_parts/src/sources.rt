@@ -1,6 +1,6 @@
 //! The models of a library with values in place of their placeholders, of which none is built.
 
-/// What is known of a model of a library before it is entered.
+/// A model of a library that was made ready to be entered.
 #[derive(Drop)]
 struct Prepared<'a> {
     location: Location,
@@ -61,7 +61,7 @@ use wot_json::Tree;
 /// A model with values in place of its placeholders, as a step enters it.
 #[derive(Clone, Copy)]
 pub struct Source<'a> {
-    /// Where the model is.
+    /// The location of the model.
     pub location: &'a Location,
     /// The model with the values, or the first fault of putting them in, which is never out of memory.
     pub model: Result<View<'a>, &'a PartFault>,

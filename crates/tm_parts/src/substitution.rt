@@ -12,7 +12,7 @@ use std::alloc::{AllocError, Global};
 use thiserror::Error;
 use wot_json::{Text, Tree};
 
-/// Why a model has no value with these bindings.
+/// The reason for which a model has no value with these bindings.
 #[derive(Debug, Drop, Error)]
 pub enum PartFault {
     /// The name of a member holds a placeholder: the pointer to that member (RFC 6901).

@@ -28,11 +28,11 @@ use wot_json::{Members, Text, Tree, copy, pointer, quoted_length};
 pub struct View<'a> {
     /// The node as it is in the model, or in the value.
     pub tree: &'a Tree,
-    /// What takes the places of placeholders; nothing does within a value, which isn't read again.
+    /// The values that take the places of placeholders; none do within a value, since that isn't read again.
     pub values: Option<&'a Values<'a>>,
 }
 
-/// What a node is once its placeholders are read.
+/// A node once its placeholders are read.
 #[derive(Clone, Copy)]
 pub enum Node<'a> {
     Null,
@@ -65,9 +65,9 @@ pub struct ObjectView<'a> {
 }
 
 impl<'a> View<'a> {
-    /// What the node is. A text that is exactly one bound placeholder is what the value is. A text is read
-    /// each time that it is visited, so counting takes a time in proportion to the model as it is written, and
-    /// not to its weight alone.
+    /// The node once its placeholders are read. A text that is exactly one bound placeholder is the node of the
+    /// value. A text is read each time that it is visited, so counting takes a time in proportion to the model as it
+    /// is written, and not to its weight alone.
     pub fn node(self) -> Node<'a>
         ensures { node_value result ≡ seen self.entry }
     {
@@ -242,7 +242,7 @@ impl<'a> TextView<'a> {
     }
 }
 
-/// What a text begins with once its placeholders are read, cut no further, and the rest after it.
+/// The beginning of a text once its placeholders are read, cut no further, and the rest after it.
 fn first_part<'a>(text: &'a str, values: Option<&'a Values<'a>>) -> (&'a str, &'a str)
     requires { 0 < length text.now }
     ensures seen { flat_map (piece_text (values_in values.entry)) (pieces text.now)
@@ -259,7 +259,7 @@ fn first_part<'a>(text: &'a str, values: Option<&'a Values<'a>>) -> (&'a str, &'
     }
 }
 
-/// What a value puts into a longer text: a text itself, and any other value nothing.
+/// The text that a value puts into a longer text: a text itself, and any other value nothing.
 fn text_in(value: &Tree) -> &str
     ensures { result.now ≡ put_text (json_of value.now) }
 {

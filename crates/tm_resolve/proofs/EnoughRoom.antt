@@ -156,7 +156,7 @@ stopped_agrees inside other from chain target (Some source) old is none =
     ∙ nowhere_agrees inside other from target (Some source) old none
     ∙ ap (λ (b : Bool). cond b (fault_at Circular from ∷ []) (model_faults other from target source)) (sym is)
 
--- what comes inside a step at a room
+-- the faults inside a step at a room
 abbrev inside_at : ℕ → Sources → List Reference → Reference → Json → List ResolveFault
 inside_at zero sources chain target = λ part. []
 inside_at (suc room) sources chain target = target_faults (record { value = value_within room sources; faults = faults_within room sources }) (chain ++ target ∷ []) target

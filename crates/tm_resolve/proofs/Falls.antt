@@ -1,4 +1,4 @@
--- Why a walk through the parts of models ends.
+-- A walk through the parts of models ends.
 use Rattle.std.proofs.Common.{◌≡◌, ◌⊎◌, ℕ, ◌+◌, ◌-◌, ◌*◌, ◌^◌, ◌<◌, ◌≤◌, max, List, [], ◌∷◌, ◌++◌, length, Bool, true, false, refl, ap, inl, inr, ◌∙◌, arith, length-append}
 use Rattle.std.specs.Prelude.{Option, Some, None, Result, Ok, Err, option_and_then, cond}
 use Rattle.std.specs.Result.{result_ok}
@@ -13,7 +13,7 @@ use Rattle.tm_parts.specs.declared.substitution.PartFault.{PartFault}
 use Rattle.tm_resolve.specs.Chain.{is_in_chain, entered_model}
 use Rattle.tm_resolve.specs.Weight.{entered_part}
 
--- how deep the models nest that may be entered
+-- the depth to which the models nest that may be entered
 abbrev pub source_nesting : Result Json PartFault → ℕ
 source_nesting (Ok whole) = nesting whole
 source_nesting (Err fault) = 0
@@ -56,12 +56,12 @@ one_step (string s) token v found = absurd (cc)
 one_step (array es) token v found = omega (arith, element_part es token 0 v found)
 one_step (object ms) token v found = omega (arith, member_part ms token v found)
 
--- what a step leads to, where it leads to anything
+-- the target of a step, where there is one
 stepped : (f : Json → Option Json) (r : Option Json) (v : Json) → option_and_then f r ≡ Some v → (w : Json) × (r ≡ Some w) × (f w ≡ Some v)
 stepped f None v found = absurd (cc)
 stepped f (Some w) v found = (w, refl, found)
 
--- what is in a value nests no deeper
+-- a part of a value nests no deeper
 tokens_nest : (tokens : List (List ℕ)) (whole part : Json) → value_at tokens whole ≡ Some part → nesting part ≤ nesting whole
 tokens_nest [] whole part found =
     let same : whole ≡ part = cc in
@@ -70,7 +70,7 @@ tokens_nest (token ∷ tokens) whole part found =
     let step = stepped (value_at tokens) (part_at token whole) part found in
     omega (arith, one_step whole token step.0 step.1, tokens_nest tokens step.0 part step.2)
 
--- what is shown on a condition is there
+-- a value that is shown on a condition is there
 shown : {X : Type 0} (b : Bool) (r : Option X) (x : X) → cond b r None ≡ Some x → r ≡ Some x
 shown {X} true r x is = is
 shown {X} false r x is = absurd (cc)
@@ -79,7 +79,7 @@ pub part_nests : (at : List ℕ) (whole part : Json) → part_of at whole ≡ So
 part_nests at whole part found =
     tokens_nest (tokens_in at) whole part (shown (is_pointer at) (value_at (tokens_in at) whole) part found)
 
--- what is not hidden on a condition is there, and the condition doesn't hold
+-- a value that is not hidden on a condition is there, and the condition doesn't hold
 hidden : {X : Type 0} (b : Bool) (r : Option X) (x : X) → cond b None r ≡ Some x → (r ≡ Some x) × (b ≡ false)
 hidden {X} true r x is = absurd (cc)
 hidden {X} false r x is = (is, refl)
@@ -103,7 +103,7 @@ model_is sources chain target whole found new =
     ap (λ (b : Bool). cond b None (option_and_then result_ok (source_named target.url sources))) new
     ∙ ap (λ (r : Option (Result Json PartFault)). option_and_then result_ok r) found
 
--- what is looked up in such a model
+-- the part that is looked up in such a model
 pub entered_model_is : (sources : Sources) (chain : List Reference) (target : Reference) (whole : Json) → source_named target.url sources ≡ Some (Ok whole) → is_in_chain target chain ≡ false
     → (f : Json → Option Json) → option_and_then f (entered_model sources chain target) ≡ f whole
 entered_model_is sources chain target whole found new f = ap (λ (m : Option Json). option_and_then f m) (model_is sources chain target whole found new)
@@ -119,8 +119,8 @@ entered_nests sources chain target part found =
     let inside = entered_parts sources chain target part found in
     omega (arith, part_nests target.pointer inside.0 part inside.2, source_nests sources target.url inside.0 (model_parts sources chain target inside.0 inside.1).0)
 
--- What is left to a walk: for each target that the chain has room for, all parts of a model. A chain is a vector, which
--- has fewer than 2 ^ 64 entries.
+-- A bound of the steps left to a walk: for each target that the chain has room for, all parts of a model. A chain is a
+-- vector, which has fewer than 2 ^ 64 entries.
 pub budget : List Reference → Sources → ℕ
 budget chain sources = (2 ^ 64 - length chain) * (8 * deepest sources + 16)
 

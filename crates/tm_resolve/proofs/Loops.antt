@@ -39,7 +39,7 @@ ordered_skipped (x ∷ []) m [] ordered = tt
 ordered_skipped (x ∷ []) m (y ∷ ys) ordered = (nat_list_cmp_total.trans x.0 m.0 y.0 ordered.0 ordered.1.0, ordered.1.1)
 ordered_skipped (x ∷ z ∷ xs) m ys ordered = (ordered.0, ordered_skipped (z ∷ xs) m ys ordered.1)
 
--- what is left at a place is what is there, and what comes after it
+-- the rest at a place is the element there, and those after it
 pub left_at : {X : Type 0} (xs : List X) (i : ℕ) (x : X) → i < length xs → x ≡ get_or xs i x → drop i xs ≡ x ∷ drop (i + 1) xs
 left_at {X} xs i x within is = (rw (add-one, drop-cons xs i x)) ∙ ap (λ (y : X). y ∷ drop (i + 1) xs) (sym is)
 
@@ -71,7 +71,7 @@ pub piece_after : (longer pieces : List (List ℕ)) (piece : List ℕ) → longe
 piece_after longer pieces piece is =
     ap pointer_of is ∙ flat_map-append (λ (p : List ℕ). p) pieces (piece ∷ []) ∙ ap (λ (end : List ℕ). pointer_of pieces ++ end) (append-nil piece)
 
--- what is said of a part by the chain and the place that the code has
+-- the statement on a part by the chain and the place that the code has
 abbrev pub PartGives : Sources → List ℕ → List ℕ → List Reference → Json → Result Tree ResolveFault → Type 0
 PartGives sources url place chain v r =
     Gives (part_value (steps_from sources chain).value url chain v) (part_faults (steps_from sources chain) chain (reference url place) v) r
@@ -87,8 +87,8 @@ pub elements_mapped : (step : ValueStep) (url : List ℕ) (chain : List Referenc
 elements_mapped step url chain [] = refl
 elements_mapped step url chain (v ∷ vs) = ap (λ (es : Elements). element (part_value step url chain v) es) (elements_mapped step url chain vs)
 
--- what a walk through a list has made, with what is left, is what becomes of the list; and what
--- is left has all its faults
+-- the values that a walk through a list has made, with those of the rest, are the value of the list; and the rest has
+-- all its faults
 pub record ElementsGoOn (steps : Steps) (chain : List Reference) (from : Reference) (meaning : Tree → Json) (list : List Tree) (done : List Json) (index : ℕ) : Type 0 where
   pub values : done ++ map (part_value steps.value from.url chain) (map meaning (drop index list)) ≡ map (part_value steps.value from.url chain) (map meaning list)
   pub faults : element_faults steps chain from index (elements_of (map meaning (drop index list))) ≡ element_faults steps chain from 0 (elements_of (map meaning list))
@@ -151,7 +151,7 @@ members_mapped step url chain (m ∷ ms) =
     chosen_members (bytes_eq m.0 reference_name) (other_values step url chain ms) ((m.0, part_value step url chain m.1) ∷ other_values step url chain ms)
     ∙ ap (λ (rest : Members). cond (bytes_eq m.0 reference_name) rest (member m.0 (part_value step url chain m.1) rest)) (members_mapped step url chain ms)
 
--- what a walk through an object has made, with what is left, is what becomes of the object
+-- the members that a walk through an object has made, with those of the rest, are the value of the object
 pub record MembersGoOn (steps : Steps) (chain : List Reference) (from : Reference) (meaning : Tree → Json) (list : List (List ℕ × Tree)) (done : List (List ℕ × Json)) (index : ℕ) : Type 0 where
   pub values : done ++ other_values steps.value from.url chain (map (named_by meaning) (drop index list)) ≡ other_values steps.value from.url chain (map (named_by meaning) list)
   pub faults : member_faults steps chain from (members_of (map (named_by meaning) (drop index list))) ≡ member_faults steps chain from (members_of (map (named_by meaning) list))

@@ -35,7 +35,7 @@ next_found meaning links index link within is extends =
 
 -- ---- links that count, one after another
 
--- what was made of the links before an index, and what the others will give
+-- the links made of those before an index, and those that the others will give
 abbrev pub LinksGoOn : (Tree → Json) → List ℕ → List ℕ → List Tree → List Link → ℕ → Type 0
 LinksGoOn meaning relation url list made index =
     kept_links made ++ map (model_link url) (links_from relation index (map meaning (drop index list))) ≡ map (model_link url) (links_from relation 0 (map meaning list))

@@ -80,13 +80,13 @@ moved_takes name members others left grown value taken ordered so_far not_before
   moved = so_far.moved;
 }
 
--- what is after a cut is in order
+-- the members after a cut are in order
 pub cut_ordered : (name : List ℕ) (members before : List Field) (value : Option Json) (after : List Field) → IsCutAt name members before value after → AreOrdered members → AreOrdered after
 cut_ordered name members before None after cut ordered = ordered_behind before after (subst AreOrdered cut.parts ordered)
 cut_ordered name members before (Some v) after cut ordered =
     rest_ordered (name, v) after (ordered_behind before ((name, v) ∷ after) (subst AreOrdered cut.parts ordered))
 
--- what is said of an option that has no value
+-- the statement on an option that has no value
 pub none_named : (P : Type 0) (o : Option Tree) → MatchOption o P (λ v. Unit {0}) → option_map json_of o ≡ None → P
 none_named P None is none = is
 none_named P (Some v) is none = absurd cc

@@ -23,7 +23,7 @@ use Rattle.tm_resolve.proofs.Outcomes.{refused_before}
 
 -- ---- whether a step can be made
 
--- what is said of a step, for all that comes inside
+-- the statement on a step, for all faults inside
 abbrev pub StepFaults : Sources → Reference → List Reference → Reference → (Json → List ResolveFault) → List ResolveFault
 StepFaults sources from chain target inside = step_faults inside from chain target (source_named target.url sources)
 
@@ -87,7 +87,7 @@ some_pointer : (pointer : List ℕ) → pointer ≢ [] → (length pointer == 0)
 some_pointer [] some = absurd (some refl)
 some_pointer (b ∷ bs) some = grind (arith, nat_tests)
 
--- what a whole model gives is what a target gives that is one
+-- a whole model gives the same as a target that is one
 pub whole_gives : (steps : Steps) (chain : List Reference) (target : Reference) (part : Json) (r : Result Tree ResolveFault) → target.pointer ≡ []
     → Gives (extended_value steps.value target.url chain (extensions part) (part_value steps.value target.url chain part)) (extension_faults steps chain target.url (extensions part) ++ part_faults steps chain (reference target.url []) part) r
     → Gives (target_value steps.value chain target part) (target_faults steps chain target part) r

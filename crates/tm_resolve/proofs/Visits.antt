@@ -63,7 +63,7 @@ weighs_stop_before vs ws left NoMemory stops = tt
 
 -- ---- loops
 
--- what counting says of the visits that are left, it says of all
+-- counting says the same of all visits as of those that are left
 abbrev pub CountsOn : List Visit → ℕ → List Visit → ℕ → Type 0
 CountsOn all before rest left = (r : Result ℕ Stop) → Weighs rest left r → Weighs all before r
 
@@ -119,7 +119,7 @@ names_left ms index m within is =
     ap (λ (ns : List (List ℕ × Tree)). sum_by name_weight (json_members ns)) (left_at ms index m within is)
     ∙ sum_by-cons name_weight (json_member m) (json_members (drop (index + 1) ms))
 
--- what is left after two amounts
+-- the rest after two amounts
 spends_both : (first second left mid : ℕ) (rest : Option ℕ) → mid + first ≡ left → Spends second mid rest → Spends (first + second) left rest
 spends_both first second left mid None is less = omega (arith, is, less)
 spends_both first second left mid (Some n) is less = omega (arith, is, less)
@@ -137,7 +137,7 @@ names_seen values (m ∷ ms) =
     ∙ ap (λ (n : ℕ). name_weight m + n) (names_seen values ms)
     ∙ sym (sum_by-cons name_weight m ms)
 
--- what is left after a list, and after an object
+-- the rest after a list, and after an object
 pub spends_list : (values : Values) (ts : List Tree) (left mid : ℕ) (rest : Option ℕ) → mid + 2 ≡ left → Spends (length ts) mid rest
     → Spends (own_weight (array (substituted_elements (elements_of (json_items ts)) values))) left rest
 spends_list values ts left mid rest begins spends =
@@ -165,7 +165,7 @@ object_part step url chain depth v ms left mid r is own inside =
     subst (λ (w : Json). Weighs (part_visits step url chain depth w) left r) is
     (weighs_then (own_visit chain depth (object ms) ∷ []) (reference_visits step url chain depth (member_named reference_name (member_list ms)) ++ member_visits step url chain (depth + 1) ms) left mid r own inside)
 
--- what an object refers to may be counted after what it has in it
+-- the target of an object may be counted after its members
 pub object_counts : (sources : Sources) (url : List ℕ) (chain es : List Reference) (depth : ℕ) (found : Option Json) (ms : Members) (left mid : ℕ) (r : Result ℕ Stop) → es ≡ chain
     → Weighs (member_visits (step_from sources chain) url chain (depth + 1) ms) left (Ok mid) → Weighs (reference_visits (step_from sources es) url es depth found) mid r
     → Weighs (reference_visits (step_from sources chain) url chain depth found ++ member_visits (step_from sources chain) url chain (depth + 1) ms) left r
@@ -199,7 +199,7 @@ beyond_limits visits (inr far) = or_right (nat_lt most_weight (weight_of visits)
 
 -- ---- a step
 
--- what is seen of an option that is there, or isn't
+-- the visits of an option that is there, or isn't
 seen_none : (room : ℕ) (sources : Sources) (role : Role) (depth : ℕ) (chain : List Reference) (target : Reference) → entered_part sources chain target ≡ None → visits_within room sources role depth chain target ≡ []
 seen_none zero sources role depth chain target none = ap (λ (o : Option Json). elim o as (λ _. List Visit) [ None ↦ [] | Some part ↦ own_visit (chain ++ target ∷ []) depth part ∷ [] ]) none
 seen_none (suc room) sources role depth chain target none = ap (λ (o : Option Json). elim o as (λ _. List Visit) [ None ↦ [] | Some part ↦ target_visits (visits_within room sources) role depth (chain ++ target ∷ []) target part ]) none

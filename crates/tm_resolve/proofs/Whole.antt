@@ -15,7 +15,7 @@ use Rattle.tm_resolve.specs.declared.fault.ResolveFault.{ResolveFault}
 use Rattle.tm_resolve.specs.declared.fault.ResolveFault.TheVariants.{At, NoMemory}
 use Rattle.tm_resolve.specs.declared.fault.ResolveKind.TheVariants.{TooLarge}
 
--- how large the expansion is, of the target that the code has
+-- the size of the expansion, of the target that the code has
 as_expanded : (s : Sources) (root url pointer : List ℕ) (large : Bool) → url ≡ root → pointer ≡ []
     → large ≡ is_too_large (visits_within most_entries s Thing 0 [] (reference url pointer)) → is_too_large (expansion s root) ≡ large
 as_expanded s root url pointer large named empty is =
@@ -23,7 +23,7 @@ as_expanded s root url pointer large named empty is =
     ∙ ap (λ (u : List ℕ). is_too_large (visits_within most_entries s Thing 0 [] (reference u pointer))) named
     ∙ ap (λ (p : List ℕ). is_too_large (visits_within most_entries s Thing 0 [] (reference root p))) empty)
 
--- what a model is that isn't too large
+-- the result for a model that isn't too large
 abbrev otherwise : Sources → List ℕ → Result Json ResolveFault
 otherwise s root = value_or_fault (root_value s root) (root_faults s root)
 
@@ -37,7 +37,7 @@ large_model s root url pointer large e named empty is too_large (inl memory) = i
 large_model s root url pointer large e named empty is too_large (inr at) =
     inr (by_size s root true (as_expanded s root url pointer large named empty is ∙ too_large) ∙ ap (λ (f : ResolveFault). Err f) (sym at))
 
--- what the first step gives, of the target that the code has
+-- the result of the first step, of the target that the code has
 as_stepped : (s : Sources) (root url pointer : List ℕ) (chain : List Reference) (r : Result Tree ResolveFault) → url ≡ root → pointer ≡ [] → chain ≡ []
     → Gives ((steps_from s chain).value chain (reference url pointer)) ((steps_from s chain).faults (reference root []) chain (reference url pointer)) r → Gives (root_value s root) (root_faults s root) r
 as_stepped s root url pointer chain r named empty none gives =

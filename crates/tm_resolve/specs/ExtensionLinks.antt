@@ -1,4 +1,4 @@
--- What the code finds of a model's links.
+-- The code's findings of a model's links.
 use Rattle.std.specs.Prelude.{◌≡◌, ℕ, List, [], ◌∷◌}
 use Rattle.wot_json.specs.Tree.{Json}
 use Rattle.tm_parts.specs.Views.{seen}

@@ -35,7 +35,7 @@ fault_in url part.NoMemory = NoMemory
 abbrev pub part_below : Reference → List ℕ → Reference
 part_below from step = reference from.url (from.pointer ++ step)
 
--- What a step gives: the value of its target, and the faults on the way, by the part that leads to the target, the
+-- The result of a step: the value of its target, and the faults on the way, by the part that leads to the target, the
 -- chain before the step and its target.
 pub record Steps : Type 0 where
   pub value : ValueStep

@@ -1,4 +1,4 @@
--- What derivation asks of a model before it is resolved: the links of it that count, and what is optional in it.
+-- The parts of a model that derivation asks for before it is resolved: the links that count, and the optional parts.
 use Rattle.std.specs.Prelude.{ℕ, List, [], map, codes, Option, Some, None, option_map, option_and_then}
 use Rattle.std.specs.Result.{result_ok}
 use Rattle.wot_json.specs.Tree.{Json}

@@ -1,4 +1,4 @@
--- What the links of a resolved model are.
+-- The links of a resolved model.
 use Rattle.std.specs.Prelude.{◌≡◌, ◌++◌, ℕ, suc, List, [], ◌∷◌, map, codes, Some}
 use Rattle.wot_json.specs.Tree.{Json, array, elements_of, AreOrdered}
 use Rattle.wot_json.specs.Lookup.{member_named}

@@ -1,4 +1,4 @@
--- What a Thing Model becomes, or why it has no value.
+-- The value of a Thing Model, or the fault because of which it has none.
 use Rattle.std.specs.Prelude.{ℕ, List, [], Some, None, Result, Ok, Err, if◌then◌else◌}
 use Rattle.wot_json.specs.Tree.{Json}
 use Rattle.tm_parts.specs.Library.{Models}
@@ -24,8 +24,8 @@ root_value sources root = value_within most_entries sources [] (whole_of root)
 abbrev pub root_faults : Sources → List ℕ → List ResolveFault
 root_faults sources root = faults_within most_entries sources (whole_of root) [] (whole_of root)
 
--- What the root model is among models with values: where its expansion is too large that fault, and else the first of
--- its faults, and else its value.
+-- The result for the root model among models with values: where its expansion is too large that fault, and else the
+-- first of its faults, and else its value.
 abbrev pub resolved_from : Sources → List ℕ → Result Json ResolveFault
 resolved_from sources root =
     if is_too_large (expansion sources root) then Err (At TooLarge root []) else value_or_fault (root_value sources root) (root_faults sources root)

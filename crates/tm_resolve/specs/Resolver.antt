@@ -1,4 +1,4 @@
--- What contracts see of a resolver.
+-- A resolver, as contracts see it.
 use Rattle.tm_parts.specs.Sources.{Sources}
 use Rattle.tm_resolve.specs.declared.resolver.Resolver.{Resolver}
 

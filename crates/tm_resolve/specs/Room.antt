@@ -1,4 +1,4 @@
--- That the room of a chain is enough for a model that isn't too large.
+-- The room of a chain is enough for a model that isn't too large.
 use Rattle.std.specs.Prelude.{◌≡◌, ℕ, List, []}
 use Rattle.tm_parts.specs.Sources.{Sources}
 use Rattle.tm_resolve.specs.Chain.{whole_of}

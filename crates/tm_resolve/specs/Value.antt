@@ -1,6 +1,6 @@
--- What a part of a Thing Model becomes once the models that it extends and the parts that it refers to are
--- brought in (Thing Description 1.1, section "Thing Model"). All parts are of models that have values in
--- place of their placeholders.
+-- The value of a part of a Thing Model once the models that it extends and the parts that it refers to are brought in
+-- (Thing Description 1.1, section "Thing Model"). All parts are of models that have values in place of their
+-- placeholders.
 --
 -- The value is said of each part, also of one with faults, whose value nobody asks for: value and faults are then two
 -- functions, and neither repeats the walk of the other.

@@ -1,4 +1,4 @@
--- What the code says that makes values.
+-- The answers of the code that makes values.
 use Rattle.std.specs.Prelude.{◌≡◌, ◌⊎◌, ◌-◌, ℕ, List, [], length, Some, Result, Ok, Err}
 use Rattle.wot_json.specs.Tree.{Json, Elements, elements_of, Members, members_of}
 use Rattle.wot_json.specs.Meaning.{json_of}
@@ -13,7 +13,7 @@ use Rattle.tm_resolve.specs.declared.sources.Sources as kept
 use Rattle.tm_resolve.specs.declared.fault.ResolveFault.{ResolveFault}
 use Rattle.tm_resolve.specs.declared.fault.ResolveFault.TheVariants.{NoMemory}
 
--- what steps give from this chain on
+-- the results of steps from this chain on
 abbrev pub steps_from : Sources → List Reference → Steps
 steps_from sources chain = record {
   value = value_within (most_entries - length chain) sources;

@@ -1,7 +1,7 @@
--- How large a Thing Model grows where the models that it extends, the parts that it refers to and its submodels are
--- brought in (Thing Description 1.1, section "Thing Model"). This is said of the visits of its expansion, which is
--- never built: each node of the model is visited, and each node of what is brought in, as often as it is. It isn't said
--- of the walk that makes the value, because submodels are visited and not brought in.
+-- The size of a Thing Model with the models that it extends, the parts that it refers to and its submodels
+-- (Thing Description 1.1, section "Thing Model"). It is defined by the visits of its expansion, which is never built:
+-- each node of the model is visited, and each node of a part that is brought in, as often as it is. It isn't defined by
+-- the walk that makes the value, because submodels are visited and not brought in.
 use Rattle.std.specs.Prelude.{◌+◌, ◌==◌, ◌||◌, Bool, ℕ, zero, suc, nat_lt, List, [], ◌∷◌, ◌++◌, length, codes, Option, Some, None, option_and_then, if◌then◌else◌}
 use Rattle.std.specs.List.{list_any, flat_map, sum_by}
 use Rattle.wot_json.specs.Tree.{Json, null, boolean, integer, string, array, object, Elements, no_elements, element, Members, no_members, member}
@@ -27,7 +27,7 @@ pub record Visit : Type 0 where
 abbrev pub name_weight : List ℕ × Json → ℕ
 name_weight m = length (json_string m.0) + 2
 
--- what a node weighs without the nodes in it: about as much as it is written with (RFC 8259)
+-- the weight of a node without the nodes in it: about the length of its text (RFC 8259)
 abbrev pub own_weight : Json → ℕ
 own_weight null = 4
 own_weight (boolean b) = 5
@@ -38,8 +38,8 @@ own_weight (object ms) = 2 + sum_by name_weight (member_list ms)
 
 -- ---- the visits of an expansion
 
--- What a step visits, by what it leads to, the model of a Thing or a part of one, the depth at which it leads there,
--- the chain before it, and its target.
+-- The visits of a step, by the role of its target, the model of a Thing or a part of one, the depth at which it leads
+-- there, the chain before it, and its target.
 abbrev pub Step : Type 0
 Step = Role → ℕ → List Reference → Reference → List Visit
 
@@ -74,7 +74,7 @@ abbrev mutual
   member_visits step url chain depth no_members = []
   member_visits step url chain depth (member n v ms) = part_visits step url chain depth v ++ member_visits step url chain depth ms
 
--- what a link of the model under `url` leads to is visited at depth 0
+-- the target of a link of the model under `url` is visited at depth 0
 abbrev pub link_visits : Step → Role → List ℕ → List Reference → Json → List Visit
 link_visits step role url chain link = elim (linked_model url link) [ None ↦ [] | Some model ↦ step role 0 chain model ]
 
@@ -92,7 +92,7 @@ abbrev pub of_thing : Role → List Visit → List Visit
 of_thing Thing visits = visits
 of_thing Part visits = []
 
--- what the links of a whole model visit: the model that it extends, and for the model of a Thing its submodels
+-- the visits of the links of a whole model: the model that it extends, and for the model of a Thing its submodels
 abbrev pub links_visits : Step → Role → List ℕ → List Reference → Json → List Visit
 links_visits step role url chain whole =
     extension_visits step url chain (extensions whole)
@@ -146,7 +146,7 @@ expansion sources root = visits_within most_entries sources Thing 0 [] (whole_of
 abbrev pub is_too_far : Visit → Bool
 is_too_far visit = nat_lt most_depth visit.depth || nat_lt most_entries visit.entries
 
--- what visits weigh together
+-- the weight of visits together
 abbrev pub weight_of : List Visit → ℕ
 weight_of visits = sum_by (λ v. v.weight) visits
 

@@ -1,7 +1,7 @@
 //! The way to a part: the targets that were stepped into, and the pieces of the pointer to it.
 //!
-//! A target is put in before a step and taken out after it, so that what was brought in beside a place doesn't count
-//! there. That the chain is bounded is why each walk ends.
+//! A target is put in before a step and taken out after it, so that the parts brought in beside a place don't count
+//! there. Each walk ends, because the chain is bounded.
 
 ghost use Rattle.std.specs.Prelude.{◌≡◌, ◌++◌, [], ◌∷◌, ◌<◌, ◌^◌, length, OnOk, IfOk};
 ghost use Rattle.wot_json.specs.Places.{step_text, element_step_text};
@@ -45,7 +45,7 @@ pub(crate) fn push_target(
     ensures ok { OnOk result (chain.new.items ≡ chain.old.items ++ target.now ∷ []) }
     ensures room { OnOk result (length chain.old.items < 2 ^ 64) }
 {
-    // For the proof: a length that was read is below 2^64.
+    // Read for the proof, because a length that was read is known to be below 2^64.
     let _before = chain.len();
     let url = Text::copy_of(alloc, target.url.as_str())?;
     let pointer = Text::copy_of(alloc, target.pointer.as_str())?;

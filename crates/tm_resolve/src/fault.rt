@@ -1,4 +1,4 @@
-//! Why a model has no value.
+//! The reasons for which a model has no value.
 
 ghost use Rattle.std.specs.Prelude.{◌≡◌, ◌⊎◌};
 ghost use Rattle.tm_resolve.specs.Chain.{pointer_of};
@@ -29,10 +29,10 @@ pub enum ResolveKind {
     /// The model has no part at the pointer of a `tm:ref`.
     #[error("no such part of a model")]
     MissingNode,
-    /// What a `tm:ref` refers to is no object.
+    /// A `tm:ref` refers to a value that is no object.
     #[error("a reference to no object")]
     NotObject,
-    /// What is referred to, or extended, is being resolved already.
+    /// A reference or an extension leads to a part that is being resolved already.
     #[error("circular")]
     Circular,
     /// The model extends more than one.
@@ -46,7 +46,7 @@ pub enum ResolveKind {
     InName,
 }
 
-/// Why a model has no value.
+/// The reason for which a model has no value.
 #[derive(Debug, Drop, Error)]
 pub enum ResolveFault {
     /// The kind, the text of the URL of the model that has the fault, and the pointer to its place there

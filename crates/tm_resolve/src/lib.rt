@@ -1,4 +1,4 @@
-//! The values of Thing Models: what a model is once the models that it extends and the parts that it refers to are
+//! The values of Thing Models: each is the model once the models that it extends and the parts that it refers to are
 //! brought in (Thing Description 1.1, section "Thing Model").
 //!
 //! ```

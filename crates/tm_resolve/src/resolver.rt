@@ -50,8 +50,8 @@ impl<'a> Resolver<'a> {
     /// Each model has values in the places of its placeholders before anything in it is looked at; a fault of that
     /// comes alone. A model with one link `tm:extends` is a merge patch (RFC 7396) on the model that the link leads to,
     /// which comes with its own extension and without its links. An object with `tm:ref` is one on the part that
-    /// `tm:ref` refers to, with its own references brought in first. What leads back to a part on the way to it is
-    /// circular; what is brought in twice side by side is not.
+    /// `tm:ref` refers to, with its own references brought in first. A step back to a part on the way to it is
+    /// circular; a part that is brought in twice side by side is not.
     ///
     /// `TooLarge` comes before all other faults, at the root and with the empty pointer: the model with all that it
     /// brings in, and its submodels, weighs more than 262,144, is deeper than 64, or has a chain of more than 16 models
@@ -60,8 +60,8 @@ impl<'a> Resolver<'a> {
     /// after the first fault nothing is looked at.
     ///
     /// Counting reads each node that it visits once, builds none, and stops where a limit is passed. For each step it
-    /// joins a text to the URL of a model, and finds a model by binary search. Only what isn't too large is built; what
-    /// is brought in twice is made twice, and merged again at each step that brings it in.
+    /// joins a text to the URL of a model, and finds a model by binary search. A value is built only where it isn't too
+    /// large; a part that is brought in twice is made twice, and merged again at each step that brings it in.
     pub fn resolve(&self, root: &str) -> Result<Tree, ResolveFault>
         ensures ok { IfOk result (λ t. resolved_from (resolver_models self.now) root.now ≡ Ok (json_of t)) }
         ensures fault { IfErr result (λ e. (e ≡ ResolveFault.NoMemory)

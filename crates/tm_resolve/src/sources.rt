@@ -8,7 +8,7 @@ use crate::chain::is_in_chain;
 use std::alloc::Global;
 use tm_parts::{Location, Reference, View};
 
-/// What all steps read: the models of a library with values in place of their placeholders.
+/// The models of a library with values in place of their placeholders, which all steps read.
 #[derive(Drop)]
 pub(crate) struct Sources<'a> {
     pub(crate) alloc: Global,

@@ -1,4 +1,4 @@
-//! What is left of a weight once a node is taken from it.
+//! The rest of a weight once a node is taken from it.
 
 ghost use Rattle.std.specs.Prelude.{◌+◌, length};
 ghost use Rattle.std.specs.List.{sum_by};
@@ -11,7 +11,7 @@ ghost use Rattle.tm_resolve.specs.Counting.{Spends};
 use tm_parts::{Node, TextView};
 use wot_json::{Text, Tree, quoted_length};
 
-/// What is left once a node is taken, without the nodes in it.
+/// The rest once a node is taken, without the nodes in it.
 pub(crate) fn spend_node(node: Node<'_>, left: usize) -> Option<usize>
     ensures { Spends (own_weight (node_value node.entry)) left result }
 {
@@ -25,7 +25,7 @@ pub(crate) fn spend_node(node: Node<'_>, left: usize) -> Option<usize>
     }
 }
 
-/// What is left once a text with values in it is taken, as it is written.
+/// The rest once a text with values in it is taken, as it is written.
 fn spend_seen_text(text: TextView<'_>, left: usize) -> Option<usize>
     ensures { Spends (length (json_string (seen_text text.entry))) left result }
 {
@@ -35,12 +35,13 @@ fn spend_seen_text(text: TextView<'_>, left: usize) -> Option<usize>
     }
 }
 
-/// What is left once the names of members are taken, and 2 for each.
+/// The rest once the names of members are taken, and 2 for each.
 fn spend_names(members: &[(Text, Tree)], left: usize) -> Option<usize>
     ensures { Spends (sum_by name_weight (json_members members.now)) left result }
 {
     let mut left = left;
     for (name, _) in members {
+        // A match and not `?`, since that gives the proof of the loop facts on `ControlFlow` alone.
         match spend_name(name.as_str(), left) {
             Some(rest) => left = rest,
             None => return None,
@@ -49,21 +50,21 @@ fn spend_names(members: &[(Text, Tree)], left: usize) -> Option<usize>
     Some(left)
 }
 
-/// What is left once a name of a member is taken, and 2.
+/// The rest once a name of a member is taken, and 2.
 fn spend_name(name: &str, left: usize) -> Option<usize>
     ensures { Spends (length (json_string name.now) + 2) left result }
 {
     spend(2, spend_text(name, left)?)
 }
 
-/// What is left once this much is taken.
+/// The rest once this much is taken.
 fn spend(amount: usize, left: usize) -> Option<usize>
     ensures { Spends amount left result }
 {
     left.checked_sub(amount)
 }
 
-/// What is left once a text is taken, as it is written.
+/// The rest once a text is taken, as it is written.
 fn spend_text(text: &str, left: usize) -> Option<usize>
     ensures { Spends (length (json_string text.now)) left result }
 {

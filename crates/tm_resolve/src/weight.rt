@@ -1,9 +1,9 @@
-//! How large a model grows, counted without building anything.
+//! The weight of a model's expansion, counted without building anything.
 //!
-//! The nodes of the expansion are visited one by one, and what each weighs is taken from what is left of the limit:
-//! each function is handed what is left before its visits, and answers what is left after them. Counting stops at the
-//! first visit that passes a limit. A node weighs at least 2, so no more than 131,072 are counted and one more is
-//! begun, however large the expansion is.
+//! The nodes of the expansion are visited one by one, and the weight of each is taken from the rest of the limit: each
+//! function is handed the rest before its visits, and answers the rest after them. Counting stops at the first visit
+//! that passes a limit. A node weighs at least 2, so no more than 131,072 are counted and one more is begun, however
+//! large the expansion is.
 
 ghost use Rattle.std.specs.Prelude.{◌≡◌, ◌+◌, ◌≤◌, List, [], ◌∷◌, ◌++◌, length, Some, IfOk, OnOk};
 ghost use Rattle.std.specs.List.{flat_map};
@@ -33,7 +33,7 @@ const MOST_WEIGHT: usize = 262_144;
 /// The greatest depth of a node.
 const MOST_DEPTH: usize = 64;
 
-/// What a step leads to.
+/// The role of a step's target.
 #[derive(Debug, Clone, Copy)]
 pub enum Role {
     /// The model of a Thing, which comes with its submodels.
@@ -42,7 +42,7 @@ pub enum Role {
     Part,
 }
 
-/// Why counting stopped.
+/// The reason for which counting stopped.
 #[derive(Debug, Drop)]
 pub(crate) enum Stop {
     /// The weight, a depth or a chain passed its limit.

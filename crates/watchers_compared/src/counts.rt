@@ -1,6 +1,6 @@
-//! How many answers say what.
+//! The counts of answers.
 
-/// How many lines of a text say what.
+/// The numbers of lines of a text with each answer.
 #[derive(Clone, Copy)]
 pub struct Counts {
     /// Registrations of pairs that were new.

@@ -1,4 +1,4 @@
-//! A full house: 1,024 watchers of 32 endpoints on two targets, and one more for which there is no room. One watcher
+//! A full house: 1,024 observers of 32 endpoints on two targets, and one more for which there is no room. One observer
 //! takes a new target between two emissions. One endpoint acknowledges nothing, and is given up; then there is room for
 //! as many again.
 
@@ -7,16 +7,17 @@ use crate::steps::Step;
 use coap_msg::Endpoint;
 use std::alloc::AllocError;
 
-/// How many endpoints there are, and how many tokens each has.
+/// The number of endpoints, and the number of tokens of each.
 const ENDPOINTS: u32 = 32;
 
 /// The endpoint that acknowledges nothing.
 const SILENT: u32 = 5;
 
-/// How often is asked what is to be sent, after an emission: more often than a target has watchers.
+/// The number of times that the next notification is asked for after an emission: more than a target has observers.
 const ASKED: u16 = 520;
 
-/// When is asked once more, in milliseconds: each time later than the last timeout of the silent endpoint.
+/// The moments at which it is asked for once more, in milliseconds: each later than the last timeout of the silent
+/// endpoint.
 const LATER: [u64; 6] = [3_000, 9_000, 21_000, 45_000, 93_000, 94_000];
 
 /// An endpoint by its number.
@@ -27,8 +28,8 @@ fn endpoint(number: u32) -> Endpoint {
     }
 }
 
-/// Registers the watchers from a number to another. The endpoint of a watcher is a 32nd of its number, and the rest is
-/// the token; even numbers are for target 0, odd ones for target 1.
+/// Registers the observers from a number to another. The endpoint of an observer is a 32nd of its number, and the rest
+/// is the token; even numbers are for target 0, odd ones for target 1.
 fn register(bodies: &mut Bodies, first: u32, last: u32) -> Result<(), AllocError> {
     for number in first..last {
         let token = (number % ENDPOINTS) as u8;
@@ -37,7 +38,7 @@ fn register(bodies: &mut Bodies, first: u32, last: u32) -> Result<(), AllocError
     Ok(())
 }
 
-/// Asks what is to be sent, and then all endpoints but the silent one acknowledge the message ID.
+/// Asks for the next notification, and then all endpoints but the silent one acknowledge the message ID.
 fn send(bodies: &mut Bodies, now: u64, id: u16) -> Result<(), AllocError> {
     bodies.play(Step::Send(now, id))?;
     for number in 0..ENDPOINTS {

@@ -1,7 +1,7 @@
-//! Compares two bodies of watchers: `Watchers` of `coap_observe`, whose slots are linked, and a plain list, which was
-//! its body before. Both get the same steps: some that are drawn, with room for eight watchers, and then those of a full
-//! house of 1,024. What each answers to a step is a line; the lines of both have to be the same. The program prints how
-//! many answers said what.
+//! Compares two bodies of observers: `Watchers` of `coap_observe`, whose slots are linked, and a plain list, which was
+//! its body before. Both get the same steps: some that are drawn, with room for eight observers, and then those of a
+//! full house of 1,024. The answer of each to a step is a line; the lines of both have to be the same. The program
+//! prints the counts of answers.
 //!
 //! The counts that it must print come from `tools/watcher-counts`, a third body in another language over the same
 //! steps.
@@ -20,7 +20,7 @@ use std::alloc::{AllocError, Global};
 use std::io;
 use steps::Draws;
 
-/// How many steps are drawn.
+/// The number of steps that are drawn.
 const STEPS: u32 = 20_000;
 
 /// Plays the steps that are drawn.
@@ -40,7 +40,7 @@ fn full_house(alloc: Global) -> Result<Bodies, AllocError> {
     Ok(bodies)
 }
 
-/// Prints how many answers said what, and whether both said the same.
+/// Prints the counts of answers, and whether both said the same.
 fn print(rt: HostRuntime, bodies: &Bodies) -> io::Result<()> {
     let counts = counts::of(bodies.lines());
     println!(rt;

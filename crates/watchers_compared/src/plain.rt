@@ -1,5 +1,6 @@
-//! Watchers as a plain list: what `Watchers` of `coap_observe` does, by walks over all. It was the body of that type
-//! before its slots were linked, and is here without its contract: what it tells is compared, and proves nothing.
+//! Observers as a plain list, which does the same as `Watchers` of `coap_observe`, by walks over all. It was the body
+//! of that type before its slots were linked, and is here without its contract: its answers are compared, and prove
+//! nothing.
 
 ghost use Rattle.std.specs.Prelude.{◌≤◌, length};
 
@@ -8,7 +9,7 @@ use coap_msg::{Endpoint, LONGEST_TOKEN};
 use coap_observe::{Notice, Registered};
 use std::alloc::{AllocError, Global};
 
-/// The watchers of a server, in order of registration.
+/// The observers of a server, in order of registration.
 #[derive(Drop)]
 pub struct PlainWatchers {
     capacity: u32,
@@ -16,13 +17,13 @@ pub struct PlainWatchers {
 }
 
 impl PlainWatchers {
-    /// A list for at most `capacity` watchers.
+    /// A list for at most `capacity` observers.
     pub fn new(alloc: Global, capacity: u32) -> Result<PlainWatchers, AllocError> {
         let list = Vec::with_capacity(alloc, capacity as usize)?;
         Ok(PlainWatchers { capacity, list })
     }
 
-    /// Registers the watcher of this endpoint and token for a target (RFC 7641, section 4.1).
+    /// Registers the observer of this endpoint and token for a target (RFC 7641, section 4.1).
     pub fn register(
         &mut self,
         from: Endpoint,
@@ -46,7 +47,7 @@ impl PlainWatchers {
         Ok(Registered::New(0))
     }
 
-    /// Ends the observation of this endpoint and token. Whether there was one.
+    /// Ends the observation of this endpoint and token, and says whether there was one.
     pub fn cancel(&mut self, from: Endpoint, token: &[u8]) -> bool {
         let found = self.list.iter().any(|watcher| watcher.is_pair(from, token));
         self.list.retain(|watcher| !watcher.is_pair(from, token));
@@ -62,7 +63,7 @@ impl PlainWatchers {
         }
     }
 
-    /// An endpoint acknowledged the message with this ID. Whether a notification had it.
+    /// An endpoint acknowledged the message with this ID. Says whether a notification had it.
     pub fn acked(&mut self, from: Endpoint, id: u16) -> bool {
         let mut found = false;
         for watcher in self.list.iter_mut() {
@@ -74,14 +75,14 @@ impl PlainWatchers {
         found
     }
 
-    /// An endpoint rejected the message with this ID. Whether a notification had it.
+    /// An endpoint rejected the message with this ID. Says whether a notification had it.
     pub fn reset(&mut self, from: Endpoint, id: u16) -> bool {
         let found = self.list.iter().any(|watcher| watcher.is_sent_as(from, id));
         self.list.retain(|watcher| !watcher.is_sent_as(from, id));
         found
     }
 
-    /// What is to be sent now.
+    /// The notification to be sent now.
     pub fn next_send(&mut self, now: u64, id: u16) -> Option<Notice> {
         self.give_up(now);
         match first_due(self.list.as_slice(), now) {
@@ -90,7 +91,7 @@ impl PlainWatchers {
         }
     }
 
-    /// Removes the watchers of each endpoint whose first due notification was sent again as often as it may be.
+    /// Removes the observers of each endpoint whose first due notification was sent again as often as it may be.
     fn give_up(&mut self, now: u64) {
         for _turn in 0..self.list.len() {
             match given_up(self.list.as_slice(), now) {
@@ -101,12 +102,12 @@ impl PlainWatchers {
     }
 }
 
-/// Where the first watcher is whose notification is due.
+/// The place of the first observer whose notification is due.
 fn first_due(list: &[PlainWatcher], now: u64) -> Option<usize> {
     list.iter().position(|watcher| watcher.is_due(now))
 }
 
-/// The endpoint of that watcher, if it is given up.
+/// The endpoint of that observer, if it is given up.
 fn given_up(list: &[PlainWatcher], now: u64) -> Option<Endpoint> {
     match list.iter().find(|watcher| watcher.is_due(now)) {
         Some(watcher) => {
@@ -120,26 +121,26 @@ fn given_up(list: &[PlainWatcher], now: u64) -> Option<Endpoint> {
     }
 }
 
-/// Whether something that was sent to an endpoint isn't acknowledged.
+/// Whether a notification to an endpoint isn't acknowledged.
 fn is_busy(list: &[PlainWatcher], from: Endpoint) -> bool {
     list.iter().any(|watcher| watcher.is_busy(from))
 }
 
-/// Sends again what was sent to the watcher at a place.
+/// Sends the notification of the observer at a place again.
 fn send_again(list: &mut [PlainWatcher], index: usize, now: u64, id: u16) -> Option<Notice> {
     let watcher = list.get_mut(index)?;
     let sent = watcher.sent?;
     Some(watcher.send_again(sent, now, id))
 }
 
-/// Sends to the first watcher that has a value to be sent and whose endpoint acknowledged all.
+/// Sends to the first observer that has a value to be sent and whose endpoint acknowledged all.
 fn send_first(list: &mut [PlainWatcher], now: u64, id: u16) -> Option<Notice> {
     let index = first_free(list)?;
     let watcher = list.get_mut(index)?;
     Some(watcher.send_first(now, id))
 }
 
-/// Where that watcher is.
+/// The place of that observer.
 fn first_free(list: &[PlainWatcher]) -> Option<usize> {
     list.iter().position(|watcher| watcher.is_marked && !is_busy(list, watcher.from))
 }

@@ -1,4 +1,4 @@
-//! The two bodies, and what both answered so far.
+//! The two bodies, and the answers of both so far.
 
 ghost use Rattle.std.specs.Prelude.{◌≤◌};
 
@@ -18,7 +18,7 @@ pub struct Bodies {
 }
 
 impl Bodies {
-    /// Both without a watcher, with room for some number of them.
+    /// Both without an observer, with room for some number of them.
     pub fn new(alloc: Global, capacity: u32) -> Result<Bodies, AllocError>
         requires least { 1 ≤ capacity }
         requires most { capacity ≤ 1024 }
@@ -39,7 +39,7 @@ impl Bodies {
         told::put_plain(&mut self.plain_lines, &mut self.plain, step)
     }
 
-    /// What the linked slots answered.
+    /// The answers of the linked slots.
     pub fn lines(&self) -> &str {
         self.linked_lines.as_str()
     }

@@ -17,11 +17,11 @@ pub enum Step {
     Acknowledge(Endpoint, u16),
     /// The endpoint rejects the message with this ID.
     Reset(Endpoint, u16),
-    /// What is to be sent is asked for at this moment, with this message ID.
+    /// The next notification is asked for at this moment, with this message ID.
     Send(u64, u16),
 }
 
-/// A generator of numbers: x becomes 1103515245 x + 12345 modulo 2^31, and what is drawn is x / 2^16.
+/// A generator of numbers: x becomes 1103515245 x + 12345 modulo 2^31, and x / 2^16 is drawn.
 #[derive(Drop)]
 pub struct Draws {
     state: u64,
@@ -72,7 +72,7 @@ impl Draws {
         }
     }
 
-    /// What is to be sent is asked for, mostly at the same moment as before, with a further message ID.
+    /// The next notification is asked for, mostly at the same moment as before, with a further message ID.
     fn send(&mut self) -> Step {
         let later = match self.draw(16) {
             0 => 1,

@@ -1,17 +1,17 @@
-//! What both bodies answer, as lines of a text.
+//! The answers of both bodies, as lines of a text.
 
 use crate::plain::PlainWatchers;
 use crate::steps::Step;
 use coap_observe::{Notice, Registered, Watchers};
 use std::alloc::AllocError;
 
-/// Writes a number, and what comes after it.
+/// Writes a number, and the words after it.
 fn put_number(text: &mut String, number: u64, after: &str) -> Result<(), AllocError> {
     case_notation::put(text, &number.to_be_bytes())?;
     text.push_str(after)
 }
 
-/// Writes what a registration came to.
+/// Writes the outcome of a registration.
 fn put_registered(text: &mut String, registered: Registered) -> Result<(), AllocError> {
     match registered {
         Registered::New(number) => {
@@ -26,12 +26,12 @@ fn put_registered(text: &mut String, registered: Registered) -> Result<(), Alloc
     }
 }
 
-/// Writes whether there was a watcher of which a call says so.
+/// Writes whether there was an observer of which a call says so.
 fn put_found(text: &mut String, word: &str, found: bool) -> Result<(), AllocError> {
     text.push_str(if found { word } else { "nobody\n" })
 }
 
-/// Writes what is sent.
+/// Writes the notification that is sent.
 fn put_notice(text: &mut String, notice: Option<Notice>) -> Result<(), AllocError> {
     match notice {
         Some(notice) => {
@@ -48,7 +48,7 @@ fn put_notice(text: &mut String, notice: Option<Notice>) -> Result<(), AllocErro
     }
 }
 
-/// Writes what the linked slots answer to a step.
+/// Writes the answer of the linked slots to a step.
 pub fn put_linked(
     text: &mut String,
     watchers: &mut Watchers,
@@ -73,7 +73,7 @@ pub fn put_linked(
     }
 }
 
-/// Writes what the plain list answers to a step.
+/// Writes the answer of the plain list to a step.
 pub fn put_plain(
     text: &mut String,
     watchers: &mut PlainWatchers,

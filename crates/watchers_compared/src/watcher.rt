@@ -1,4 +1,4 @@
-//! One watcher as the plain list keeps it.
+//! One observer as the plain list keeps it.
 
 ghost use Rattle.std.specs.Prelude.{◌≤◌, length};
 
@@ -7,7 +7,7 @@ use coap_msg::{
 };
 use coap_observe::Notice;
 
-/// How many sequence numbers there are (RFC 7641, section 3.4).
+/// The number of sequence numbers (RFC 7641, section 3.4).
 const SEQUENCES: u32 = 1 << 24;
 
 /// A notification that was sent and isn't acknowledged (RFC 7252, section 4.2).
@@ -15,11 +15,11 @@ const SEQUENCES: u32 = 1 << 24;
 pub struct Sent {
     /// Its message ID.
     pub id: u16,
-    /// How often it was sent again.
+    /// The number of times that it was sent again.
     pub retransmissions: u8,
-    /// How long after the last sending it is sent again, in milliseconds.
+    /// The time from the last sending to the next, in milliseconds.
     pub timeout: u64,
-    /// When that was.
+    /// The moment of the last sending.
     pub last: u64,
 }
 
@@ -53,17 +53,17 @@ impl Sent {
 /// An observer of a target (RFC 7641, section 4.1).
 #[derive(Drop)]
 pub struct PlainWatcher {
-    /// Where it registered from.
+    /// The endpoint from which it registered.
     pub from: Endpoint,
     /// The token of its registration.
     pub token: BoundedBytes<LONGEST_TOKEN>,
-    /// What it observes.
+    /// The target that it observes.
     pub target: u32,
     /// The last sequence number that was sent to it.
     pub sequence: u32,
     /// Whether its target has a value that wasn't sent to it yet.
     pub is_marked: bool,
-    /// What was sent to it and isn't acknowledged.
+    /// The notification that was sent to it and isn't acknowledged.
     pub sent: Option<Sent>,
 }
 
@@ -97,7 +97,7 @@ impl PlainWatcher {
         self.is_from(from) && token == self.token.as_bytes()
     }
 
-    /// Whether what was sent to it from this endpoint with this message ID isn't acknowledged.
+    /// Whether it is of this endpoint, and its notification with this message ID isn't acknowledged.
     pub fn is_sent_as(&self, from: Endpoint, id: u16) -> bool {
         match self.sent {
             Some(sent) => self.is_from(from) && id == sent.id,
@@ -105,12 +105,12 @@ impl PlainWatcher {
         }
     }
 
-    /// Whether something was sent to this endpoint, by this watcher, that isn't acknowledged.
+    /// Whether it is of this endpoint, and its notification isn't acknowledged.
     pub fn is_busy(&self, from: Endpoint) -> bool {
         self.sent.is_some() && self.is_from(from)
     }
 
-    /// Whether what was sent to it is to be sent again, or given up.
+    /// Whether its notification is to be sent again, or given up.
     pub fn is_due(&self, now: u64) -> bool {
         match self.sent {
             Some(sent) => sent.is_due(now),
@@ -118,7 +118,7 @@ impl PlainWatcher {
         }
     }
 
-    /// Whether what was sent to it was sent again as often as it may be.
+    /// Whether its notification was sent again as often as it may be.
     pub fn is_exhausted(&self) -> bool {
         match self.sent {
             Some(sent) => sent.retransmissions >= MOST_RETRANSMISSIONS,
@@ -150,7 +150,7 @@ impl PlainWatcher {
         }
     }
 
-    /// What was sent to it is sent again now, or a new message in place of it, where its target has a newer value.
+    /// Its notification is sent again now, or a new message in place of it, where its target has a newer value.
     pub fn send_again(&mut self, sent: Sent, now: u64, id: u16) -> Notice {
         if self.is_marked {
             let notice = self.notice(id, self.sequence_after(), true);

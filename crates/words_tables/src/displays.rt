@@ -1,4 +1,4 @@
-//! How errors are displayed that no other table brings about: `NAME => TEXT`.
+//! The displays of errors that no other table brings about: `NAME => TEXT`.
 
 use coap_msg::NoRoom;
 use command_words::WordsFault;

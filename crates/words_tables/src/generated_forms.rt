@@ -32,7 +32,7 @@ fn first_action(tree: &Tree) -> Option<&Tree> {
     }
 }
 
-/// What is at a pointer of a description.
+/// The part at a pointer of a description.
 fn part_at<'a>(tree: &'a Tree, at: &str) -> Option<&'a Tree> {
     match at {
         "-" => Some(tree),

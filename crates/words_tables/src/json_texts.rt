@@ -1,4 +1,4 @@
-//! JSON texts: what is read from them, and how trees and texts are written.
+//! JSON texts: the trees that are read from them, and how trees and texts are written.
 //!
 //! ```text
 //! json_texts   TEXT => TEXT or fault       what is written of what is read

@@ -83,12 +83,12 @@ fn put_row(
     put_came(text, alloc, wanted, said)
 }
 
-/// What a table keeps from line to line.
+/// The state that a table keeps from line to line.
 #[derive(Drop)]
 struct Sheet {
-    /// What comes of the last row.
+    /// The result of the last row.
     said: String,
-    /// What rows are about.
+    /// The text that rows are about.
     shared: String,
 }
 
@@ -120,7 +120,8 @@ fn put_line(
     text.push_str("\n")
 }
 
-/// Writes the lines of a table with what comes of them.
+/// Writes the lines of a table with what comes of them. The text is lent, because a function that owned it too would
+/// give up both at each `?`.
 fn put_page(text: &mut String, alloc: Global, table: &str, lines: &str) -> Result<(), AllocError> {
     let mut sheet = Sheet {
         said: String::new(alloc),

@@ -17,7 +17,7 @@ one_more : (w : Wanted) (base : Option (List ℕ)) (f : Form) (fs : List Form) (
 one_more w base f fs None over later = (over, later)
 one_more w base f fs (Some c) over later = inr (over, later)
 
--- how the forms that are left come out, so do all
+-- all forms come out as those that are left do
 pub first_more : (w : Wanted) (base : Option (List ℕ)) (fs : List Form) (i : ℕ) (f : Form) → i < length fs → f ≡ get_or fs i f → IsPassedOver w base f →
     ((o : Option Chosen) → IsFirst w base (drop i fs) o → IsFirst w base fs o) → (o : Option Chosen) → IsFirst w base (drop (i + 1) fs) o → IsFirst w base fs o
 first_more w base fs i f within is over kept o later =

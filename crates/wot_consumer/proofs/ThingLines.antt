@@ -51,7 +51,7 @@ text_targets : (text : List ℕ) (links : List Link) → IsLinkText text links �
 text_targets _ _ no_links = refl
 text_targets _ _ (some_links text links are) = links_targets text links are
 
--- what was read
+-- the links that were read
 same_read : (a b : List Link) → ◌≡◌ {A = Result (List Link) LinkFault} (Ok a) (Ok b) → a ≡ b
 same_read a b is = cc
 

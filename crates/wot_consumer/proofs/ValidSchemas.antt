@@ -64,7 +64,7 @@ valid_input t name valid = of_input (affordance_named kind.Action name t) (named
 pub valid_output : (t : Json) (name : List ℕ) → IsValid t → IfSome (output_schema t name) IsSchema
 valid_output t name valid = of_output (affordance_named kind.Action name t) (named kind.Action name t valid)
 
--- what holds of a value holds of the tree that it is read from
+-- a property of a value is one of the tree that it is read from
 pub seen_so : (P : Json → Type 0) (found : Option (Bor Tree)) (o : Option Json) → option_map (λ t. json_of t.now) found ≡ o → IfSome o P → IfSome found (λ t. P (json_of t.now))
 seen_so P None o is holds = tt
 seen_so P (Some t) o is holds = subst (λ u. IfSome u P) (sym is) holds

@@ -1,4 +1,4 @@
--- Which form of a Thing Description an operation is done by, and what is asked there (TD 1.1, section 5.3.4.2).
+-- The form of a Thing Description that is chosen for an operation, and the request to it (TD 1.1, section 5.3.4.2).
 use Rattle.std.specs.Prelude.{◌≡◌, ◌⊎◌, ℕ, List, [], ◌∷◌, Bool, true, not, IsTrue, Option, Some, None, Ok, codes, unwrap_or, option_map, IfSome, Contains, ⊤, if◌then◌else◌}
 use Rattle.url.specs.Parts.{Parts, nonempty_host}
 use Rattle.url.specs.Host.{host_text}
@@ -32,13 +32,13 @@ is_over o scheme.Coap = true
 abbrev pub IsWanted : Wanted → Scheme → Type 0
 IsWanted w s = IfSome w.scheme (λ only. only ≡ s) × IsTrue (is_over w.op s)
 
--- What a form says of itself fits.
+-- A form fits by its own members.
 pub record Fits (w : Wanted) (f : Form) : Type 0 where
   pub operation : Contains f.ops w.op
   pub content_type : f.content_type ≡ codes "application/json"
   pub subprotocol : f.subprotocol ≡ subprotocol_for w.op
 
--- What is chosen is at this URL: it has a scheme that may be used, a host and no query, and its path can be sent.
+-- The choice is at this URL: it has a scheme that may be used, a host and no query, and its path can be sent.
 pub record LeadsTo (w : Wanted) (url : Parts) (c : Chosen) : Type 0 where
   pub scheme : scheme_named url.scheme ≡ Some c.scheme
   pub wanted : IsWanted w c.scheme
@@ -92,7 +92,7 @@ base_of t = text_of (part (codes "base") t)
 abbrev pub forms_for : Json → Op → List ℕ → Option (List Form)
 forms_for t o name = forms_in t (kind_of o) name
 
--- what is wanted
+-- the form that is wanted
 abbrev pub wanted : Op → Option Scheme → Wanted
 wanted o only = record { op = o; scheme = only }
 

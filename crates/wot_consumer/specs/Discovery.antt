@@ -1,5 +1,5 @@
--- Which Things a server says that it has (RFC 6690; WoT Discovery, section "CoRE Link Format and CoRE Resource Directory"):
--- where it is asked for its links, and what its link text comes to.
+-- The Things that a server says that it has (RFC 6690; WoT Discovery, section "CoRE Link Format and CoRE Resource
+-- Directory"): the request for its links, and the outcome of its link text.
 use Rattle.std.specs.Prelude.{◌≡◌, ◌==◌, ℕ, ◌&&◌, Bool, false, List, [], ◌∷◌, ◌++◌, codes, decimal, map, filter, Option, Some, None, option_map, option_and_then, if◌then◌else◌}
 use Rattle.std.specs.List.{flat_map, list_all, list_any, slice_split}
 use Rattle.std.specs.Result.{result_ok}
@@ -15,7 +15,7 @@ use Rattle.wot_consumer.specs.declared.chosen.Chosen.{Chosen}
 
 -- ## The request
 
--- what is asked of the server at a host and a port: a GET of `/.well-known/core` over CoAP (RFC 6690, section 4)
+-- the request to the server at a host and a port: a GET of `/.well-known/core` over CoAP (RFC 6690, section 4)
 abbrev pub links_of : List ℕ → ℕ → Chosen
 links_of host port = record {
   scheme = scheme.Coap;
@@ -79,8 +79,8 @@ lines_of = flat_map line_text
 
 -- ## The whole
 
--- What bytes say of the Things of the server with this URL: the lines of their URLs; or nothing, where the bytes are no link
--- text, or where they are one and the target of a link to a Thing can't be joined.
+-- Bytes say this of the Things of the server with this URL: the lines of their URLs; or nothing, where the bytes are no
+-- link text, or where they are one and the target of a link to a Thing can't be joined.
 pub data SaysOfThings (base bytes : List ℕ) (said : Option (List ℕ)) : Type 0 where
   are_links : (links : List Link) → IsLinkText bytes links → said ≡ option_map lines_of (thing_urls base links) → SaysOfThings base bytes said
   are_no_links : ((links : List Link) → ¬ (IsLinkText bytes links)) → said ≡ None → SaysOfThings base bytes said

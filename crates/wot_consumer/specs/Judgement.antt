@@ -32,7 +32,7 @@ output_schema t name = option_and_then (part (codes "output")) (affordance_named
 abbrev pub HasAffordance : Json → Op → List ℕ → Type 0
 HasAffordance t o name = IfSome (kind_of o) (λ k. IsSome (affordance_named k name t))
 
--- ## What is handed in
+-- ## The value that is handed in
 
 -- the schema that stands for what an operation hands in
 abbrev pub schema_in : Json → Op → List ℕ → Option Json
@@ -50,7 +50,7 @@ IsInputOf None None = ⊤
 abbrev pub AcceptsInput : Json → Op → List ℕ → Option Json → Type 0
 AcceptsInput t o name value = IsInputOf (schema_in t o name) value
 
--- ## What comes back
+-- ## The value that comes back
 
 -- a schema accepts the value, where it stands
 abbrev pub IsAcceptedBy : Option Json → Json → Type 0
@@ -75,8 +75,8 @@ abbrev pub IsThere : (Json → Type 0) → Option Json → Type 0
 IsThere P None = ⊥
 IsThere P (Some value) = P value
 
--- What comes back of each operation. Where a property is read or observed it is accepted by the property's schema, of
--- an action by that of its output where there is one; only a read has to bring a value.
+-- The value that comes back of each operation. Where a property is read or observed it is accepted by the property's
+-- schema, of an action by that of its output where there is one; only a read has to bring a value.
 abbrev pub AcceptsOutput : Json → Op → List ℕ → Option Json → Type 0
 AcceptsOutput t op.ReadProperty name value = IsThere (IsAcceptedBy (property_schema t name)) value
 AcceptsOutput t op.ObserveProperty name value = IsThere (IsAcceptedBy (property_schema t name)) value

@@ -29,7 +29,7 @@ request_line c = verb_name c.verb ++ codes " " ++ path_text c.path ++ codes " HT
 abbrev pub host_and_port : Chosen → List ℕ
 host_and_port c = c.host ++ codes ":" ++ decimal c.port
 
--- what a request with a body says of it
+-- the fields by which a request with a body describes it
 abbrev pub body_fields : Option (List ℕ) → List ℕ
 body_fields None = []
 body_fields (Some body) = field (codes "Content-Type") (codes "application/json") ++ field (codes "Content-Length") (decimal (length body))

@@ -1,4 +1,4 @@
--- What a consumer does with a Thing (TD 1.1, section 5.3.4.2), and the method by which it is asked.
+-- The operations of a consumer on a Thing (TD 1.1, section 5.3.4.2), and the method of each.
 use Rattle.std.specs.Prelude.{ℕ, List, Bool, true, false, Option, Some, None, codes, unwrap_or, option_and_then, if◌then◌else◌}
 use Rattle.std.specs.Str.{bytes_eq}
 use Rattle.wot_terms.specs.declared.kind.Kind.{Kind}

@@ -1,5 +1,5 @@
--- Where a URL leads: the scheme, the host, the port, the segments of the path (RFC 3986, section 3; RFC 9110, section
--- 4.2.1; RFC 7252, sections 6.1 and 6.4).
+-- The parts of a URL that say where it leads: the scheme, the host, the port, the path (RFC 3986, section 3; RFC 9110,
+-- section 4.2.1; RFC 7252, sections 6.1 and 6.4).
 use Rattle.std.specs.Prelude.{◌≤◌, ℕ, List, [], ◌∷◌, length, All, Option, Some, None, codes, ⊤, ◌==◌, if◌then◌else◌}
 use Rattle.std.specs.Str.{bytes_eq}
 use Rattle.http_wire.specs.Targets.{segments_behind}
@@ -25,7 +25,7 @@ abbrev pub segments_of : List ℕ → List (List ℕ)
 segments_of [] = []
 segments_of (b ∷ bytes) = if b == 47 then segments_behind bytes else []
 
--- the segments can be sent: over CoAP each has at most 255 bytes (RFC 7252, section 5.10)
+-- the path can be sent: over CoAP each segment has at most 255 bytes (RFC 7252, section 5.10)
 abbrev pub AreSendable : Scheme → List (List ℕ) → Type 0
 AreSendable scheme.Http segments = ⊤
 AreSendable scheme.Coap segments = All (λ segment. length segment ≤ LONGEST_SEGMENT) segments

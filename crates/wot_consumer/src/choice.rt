@@ -63,7 +63,7 @@ fn base_of(tree: &Tree) -> Option<&str>
     }
 }
 
-/// What is chosen by the first form that qualifies.
+/// The choice by the first form that qualifies.
 fn first(
     alloc: Global,
     wanted: Wanted,
@@ -81,7 +81,7 @@ fn first(
     Err(ChooseFault::NoForm)
 }
 
-/// What is chosen by a form, where it qualifies.
+/// The choice by a form, where it qualifies.
 fn chosen_by(
     alloc: Global,
     wanted: Wanted,
@@ -100,7 +100,7 @@ fn chosen_by(
     }
 }
 
-/// What a form says of itself fits.
+/// The form fits by its own members.
 fn fits(wanted: Wanted, form: &Form) -> bool
     ensures { IsTrue result ↔ spec.Fits wanted form.now }
 {
@@ -136,7 +136,7 @@ fn verb_by(op: Op, form: &Form) -> Verb
     }
 }
 
-/// What is chosen at a URL, where it leads to something that may be used.
+/// The choice at a URL, where it leads to something that may be used.
 fn chosen_at(
     alloc: Global,
     wanted: Wanted,

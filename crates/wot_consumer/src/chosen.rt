@@ -1,4 +1,4 @@
-//! What is chosen for an operation, or asked of a server for its links, and why nothing is.
+//! The request that is chosen for an operation, or for the links of a server, and the reasons why there is none.
 
 use std::alloc::AllocError;
 use thing_ops::{Segments, Verb};
@@ -6,7 +6,7 @@ use thiserror::Error;
 use wot_forms::Scheme;
 use wot_json::Text;
 
-/// Where and how something is asked for: an operation, or the links of a server.
+/// The place and the method of a request: for an operation, or for the links of a server.
 #[derive(Debug, Drop)]
 pub struct Chosen {
     pub scheme: Scheme,
@@ -22,7 +22,7 @@ pub struct Chosen {
     pub observe: bool,
 }
 
-/// Why nothing is chosen.
+/// The reason for which nothing is chosen.
 #[derive(Clone, Copy, Debug, PartialEq, Eq, Drop, Error)]
 pub enum ChooseFault {
     /// The description has no affordance of this name that has the operation.

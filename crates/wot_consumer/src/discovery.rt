@@ -1,4 +1,4 @@
-//! Which Things a server says that it has (RFC 6690).
+//! The Things that a server says that it has (RFC 6690).
 
 ghost use Rattle.std.specs.Prelude.{◌≡◌, ◌++◌, true, None, IfOk, OnOk, option_map, string_bytes};
 ghost use Rattle.std.specs.List.{list_all, list_any};
@@ -19,7 +19,7 @@ use wot_json::{Bytes, Text};
 /// The resource type of a Thing (WoT Discovery).
 const THING: &[u8] = b"wot.thing";
 
-/// What is asked of the server at this host and port for its links: a GET of `/.well-known/core` over CoAP.
+/// The request for the links of the server at this host and port: a GET of `/.well-known/core` over CoAP.
 pub fn links_request(alloc: Global, host: &str, port: u16) -> Result<Chosen, NoMemory>
     ensures { IfOk result (λ c. c ≡ spec.links_of host.now port) }
 {

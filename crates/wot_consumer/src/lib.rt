@@ -1,10 +1,10 @@
-//! What a consumer of a Thing decides by the Thing's description (TD 1.1): which form an operation is done by, what is
-//! sent there, and whether a value that is handed in or comes back is as the description says.
+//! The decisions of a consumer of a Thing by the Thing's description (TD 1.1): the form by which an operation is done,
+//! the request that is sent there, and whether a value that is handed in or comes back is as the description says.
 //!
 //! `choose` gives the first form that qualifies, as `IsChosen` of `specs/Choice.antt` says; `http_request` writes the
 //! request, `request_bytes` of `specs/Messages.antt`; `judge_input` and `judge_output` hold values against schemas,
-//! `AcceptsInput` and `AcceptsOutput` of `specs/Judgement.antt`. And what it takes from the links of a server: which Things
-//! they lead to, `things_in`, as `SaysOfThings` of `specs/Discovery.antt` says. Nothing here knows a socket or a moment.
+//! `AcceptsInput` and `AcceptsOutput` of `specs/Judgement.antt`. `things_in` gives the Things to which the links of a
+//! server lead, as `SaysOfThings` of `specs/Discovery.antt` says. Nothing here knows a socket or a moment.
 //!
 //! ```text
 //! let chosen = choose(alloc, &tree, Op::WriteProperty, "status", Some(Scheme::Http))?;

@@ -1,4 +1,4 @@
-//! Where a URL leads.
+//! The place to which a URL leads.
 
 ghost use Rattle.std.specs.Prelude.{◌≡◌, ◌≤◌, ◌++◌, ◌∷◌, ◌↔◌, ◌==◌, [], length, map, nat_lt, false, All, IfOk, OnOk, IsTrue, slice_get};
 ghost use Rattle.std.specs.Option.{option_map_or};
@@ -43,7 +43,7 @@ pub(crate) fn segments_of(alloc: Global, path: &str) -> Result<Segments, NoMemor
     }
 }
 
-/// The segments can be sent over this protocol.
+/// The path can be sent over this protocol.
 pub(crate) fn are_sendable(scheme: Scheme, segments: &Segments) -> bool
     ensures { IsTrue result ↔ place.AreSendable scheme segments.now }
 {

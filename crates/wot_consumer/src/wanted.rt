@@ -1,4 +1,4 @@
-//! What a form is looked for.
+//! The operation for which a form is looked for.
 
 use wot_forms::Scheme;
 use wot_terms::Op;

@@ -1,4 +1,4 @@
--- What is copied of a directory, entry by entry.
+-- The copies of a directory's entries, one by one.
 use Rattle.std.proofs.Common.{◌≡◌, ℕ, zero, suc, List, [], ◌∷◌, ◌++◌, refl, sym, ap, ◌∙◌, append_assoc}
 use Rattle.std.specs.Prelude.{String, string_bytes, take, drop}
 use Rattle.std.specs.declared.alloc.Global.{Global}

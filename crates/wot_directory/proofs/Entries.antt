@@ -1,4 +1,4 @@
--- How the directory's map answers, in terms of the list of descriptions.
+-- The answers of the directory's map, in terms of the list of descriptions.
 use Rattle.std.proofs.Common.{◌≡◌, ◌≤◌, ◌<◌, ◌+◌, ℕ, List, [], ◌∷◌, length, refl, sym, ap, subst, arith, ◌∙◌, inl, inr, Bool, true, false, cond, Bor}
 use Rattle.std.specs.Prelude.{Option, Some, None, option_map, option_copied, is_some, IsSome, String, string_bytes, ◌⊎◌, Result, Ok, Err, IfOk, OnErr}
 use Rattle.std.specs.Str.{bytes_eq}
@@ -27,13 +27,13 @@ use Rattle.wot_directory.specs.Directory.{HasRoom, with_entry, without_entry}
 abbrev pub Kept : Type 0
 Kept = List (String Global × Tree)
 
--- what the map holds under a text
+-- the description that the map holds under a text
 abbrev pub found_in : List ℕ → Kept → Option Tree
 found_in id es = lookup (is_at (λ k. slice_cmp nat_cmp id (string_bytes k))) es
 
 -- ---- looking up
 
--- what a lookup lends, by value
+-- the description that a lookup lends, by value
 pub lent_value : (r : Option (Bor Tree)) → option_map (λ t. json_of t.now) r ≡ option_map json_of (option_copied r)
 lent_value None = refl
 lent_value (Some t) = refl
@@ -55,7 +55,7 @@ some_mapped : (r : Option Tree) → is_some (option_map json_of r) ≡ is_some r
 some_mapped None = refl
 some_mapped (Some t) = refl
 
--- whether there is something is the same in both
+-- both say alike whether there is one
 pub kept_some : (id : List ℕ) (es : Kept) → is_some (member_named id (kept_entries es)) ≡ is_some (found_in id es)
 kept_some id es = ap (λ (r : Option Json). is_some r) (sym (kept_found id es)) ∙ some_mapped (found_in id es)
 
@@ -151,7 +151,7 @@ few_after (Err e) k id es now d key is room few found len same = subst (λ (xs :
 abbrev seen : Entries → ℕ → Contents
 seen ms next = record { entries = ms; next = next }
 
--- what contracts see once the map took a description, and once an entry was removed
+-- the view once the map took a description, and once an entry was removed
 pub put_is_seen : (es now : Kept) (next : ℕ) (k : String Global) (id : List ℕ) (t : Tree) (d : Contents) → string_bytes k ≡ id → contents_of es next ≡ d → now ≡ insert_entry string_cmp es k t → contents_of now next ≡ with_entry id (json_of t) d
 put_is_seen es now next k id t d key is entries =
     ap (λ (xs : Kept). contents_of xs next) entries
@@ -165,6 +165,6 @@ removal_is_seen es now next id d ordered is entries =
     ∙ ap (λ (ms : Entries). seen ms next) (kept_removed id es ordered)
     ∙ ap (λ (c : Contents). without_entry id c) is
 
--- what is seen by the entries
+-- the view by the entries
 pub entries_seen : (es : Kept) (next : ℕ) (d : Contents) → contents_of es next ≡ d → kept_entries es ≡ d.entries
 entries_seen es next d is = ap (λ (c : Contents). c.entries) is

@@ -1,4 +1,4 @@
--- What is under an id, by what the map says.
+-- The description under an id, by the answer of the map.
 use Rattle.std.proofs.Common.{◌≡◌, ℕ, List, refl, sym, ap, subst, rules, ◌∙◌, true, false}
 use Rattle.std.specs.Prelude.{String, string_bytes, Option, Some, None, Result, Ok, Err, IfOk, IfErr, OnOk, option_map, is_some, IsSome}
 use Rattle.std.specs.declared.alloc.Global.{Global}
@@ -13,7 +13,7 @@ use Rattle.wot_directory.specs.declared.fault.DirFault.{DirFault}
 use Rattle.wot_directory.specs.declared.fault.DirFault.TheVariants.{NotFound, Invalid, IdDiffers, HasId, Full, NoMemory}
 use Rattle.wot_directory.proofs.Entries.{Kept, found_in, kept_found, none_kept, some_kept}
 
--- what the map says is so in the directory
+-- an answer of the map is so in the directory
 pub found_under : (id : List ℕ) (es : Kept) (d : Contents) (r : Option Tree) → kept_entries es ≡ d.entries → r ≡ found_in id es → member_named id d.entries ≡ option_map json_of r
 found_under id es d r is found =
     ap (λ (ms : Entries). member_named id ms) (sym is) ∙ sym (kept_found id es) ∙ ap (λ (o : Option Tree). option_map json_of o) (sym found)

@@ -25,7 +25,7 @@ named_without_other name other (m ∷ ms) differ = elim (cases_Bool (bytes_eq ot
   | inr apart ↦ rw apart (ap (λ (r : Option Json). cond (bytes_eq name m.0) (Some m.1) r) (named_without_other name other ms differ))
 ]
 
--- what is left is no longer, and shorter where the name was found
+-- the rest is no longer, and shorter where the name was found
 no_longer : (name : List ℕ) (ms : List Entry) → length (without_member name ms) ≤ length ms
 no_longer name [] = omega arith
 no_longer name (m ∷ ms) =

@@ -1,4 +1,4 @@
--- Whether a description may be put, by what the map says.
+-- Judging whether a description may be put, by the answers of the map.
 use Rattle.std.proofs.Common.{◌≡◌, ◌≤◌, ◌<◌, ℕ, List, length, refl, sym, ap, subst, arith, ◌∙◌, inl, inr, true, false}
 use Rattle.std.specs.Prelude.{Option, Some, None, is_some, is_none, IsSome}
 use Rattle.wot_json.specs.Tree.{Json, string}

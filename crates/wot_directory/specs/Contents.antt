@@ -1,4 +1,4 @@
--- What contracts see of a `Directory`.
+-- The view of a `Directory` in contracts.
 use Rattle.std.specs.Prelude.{ℕ, List, refl}
 use Rattle.std.specs.Coded.{Coded, code_by, coded×, coded_ℕ}
 use Rattle.wot_json.specs.Tree.{Json}
@@ -8,7 +8,7 @@ use Rattle.wot_json.specs.JsonCodes.{members_code}
 abbrev pub Entries : Type 0
 Entries = List (List ℕ × Json)
 
--- how many descriptions a directory may hold
+-- the most descriptions that a directory may hold
 abbrev pub most_entries : ℕ
 most_entries = 4096
 
@@ -17,7 +17,7 @@ pub record Contents : Type 0 where
   pub entries : Entries
   pub next : ℕ
 
--- how the logic keeps it: as the pair of its fields
+-- its code, as the kit asks in an `impl Model`: the pair of its fields
 abbrev pub contents_code : Coded Contents
 contents_code =
     code_by (Entries × ℕ) (coded× members_code coded_ℕ) (λ c. (c.entries, c.next)) (λ p. record { entries = p.0; next = p.1 }) (λ _. refl)

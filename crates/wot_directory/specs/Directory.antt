@@ -49,7 +49,7 @@ empty_directory = record { entries = []; next = 1 }
 
 -- ---- `put`: a description under the id that it has
 
--- why a description is not put: the first of these that holds
+-- the cause for which a description is not put: the first of these that holds
 abbrev pub HasPutFault : DirFault → List ℕ → Json → Contents → Type 0
 HasPutFault (Invalid fault) id description d = IsFirstFault fault description
 HasPutFault IdDiffers id description d = IsValid description × (id_of description ≢ Some (string id))
@@ -109,7 +109,7 @@ number_after number = if number == last_number then 1 else number + 1
 abbrev pub counted_on : ℕ → Contents → Contents
 counted_on number d = record d { next = number_after number }
 
--- why no description is created: the first of these that holds
+-- the cause for which no description is created: the first of these that holds
 abbrev pub HasCreateFault : DirFault → Json → Contents → Type 0
 HasCreateFault HasId description d = IsSome (id_of description)
 HasCreateFault (Invalid fault) description d = (id_of description ≡ None) × IsFirstFault fault description
@@ -134,14 +134,14 @@ pub record Creates (description : Json) (d : Contents) (id : List ℕ) (after : 
 
 -- ---- `patch`: a description as a merge patch changes it (RFC 7396)
 
--- What a patch makes of a description: it is valid, and has the same `id`, or none where there was none, because its
+-- A patch makes this of a description: it is valid, and has the same `id`, or none where there was none, because its
 -- place in the directory is that id.
 pub record IsPatched (kept patch description : Json) : Type 0 where
   pub merged : description ≡ merge kept patch
   pub valid : IsValid description
   pub same_id : id_of description ≡ id_of kept
 
--- why a patch makes nothing of a description: the first of these that holds
+-- the cause for which a patch makes nothing of a description: the first of these that holds
 abbrev pub HasMergeFault : DirFault → Json → Json → Type 0
 HasMergeFault (Invalid fault) kept patch = IsFirstFault fault (merge kept patch)
 HasMergeFault IdDiffers kept patch = IsValid (merge kept patch) × (id_of (merge kept patch) ≢ id_of kept)
@@ -154,7 +154,7 @@ HasMergeFault Full kept patch = ⊥
 abbrev pub HoldsUnder : List ℕ → Contents → (Json → Type 0) → Type 0
 HoldsUnder id d P = (kept : Json) × (member_named id d.entries ≡ Some kept) × P kept
 
--- why a description is not patched: the first of these that holds
+-- the cause for which a description is not patched: the first of these that holds
 abbrev pub HasPatchFault : DirFault → List ℕ → Json → Contents → Type 0
 HasPatchFault NotFound id patch d = member_named id d.entries ≡ None
 HasPatchFault (Invalid fault) id patch d = HoldsUnder id d (λ kept. HasMergeFault (Invalid fault) kept patch)
@@ -174,7 +174,7 @@ pub record IsReplacement (kept description : Json) : Type 0 where
   pub valid : IsValid description
   pub same_id : id_of description ≡ id_of kept
 
--- why it may not: the first of these that holds
+-- the cause for which it may not: the first of these that holds
 abbrev pub HasReplacementFault : DirFault → Json → Json → Type 0
 HasReplacementFault (Invalid fault) kept description = IsFirstFault fault description
 HasReplacementFault IdDiffers kept description = IsValid description × (id_of description ≢ id_of kept)
@@ -187,7 +187,7 @@ HasReplacementFault Full kept description = ⊥
 abbrev pub MayReplace : List ℕ → Json → Contents → Type 0
 MayReplace id description d = HoldsUnder id d (λ kept. IsReplacement kept description)
 
--- why it may not: the first of these that holds
+-- the cause for which it may not: the first of these that holds
 abbrev pub HasReplaceFault : DirFault → List ℕ → Json → Contents → Type 0
 HasReplaceFault NotFound id description d = member_named id d.entries ≡ None
 HasReplaceFault (Invalid fault) id description d = HoldsUnder id d (λ kept. HasReplacementFault (Invalid fault) kept description)
@@ -203,7 +203,7 @@ pub record Replaces (id : List ℕ) (description : Json) (d after : Contents) : 
 
 -- ---- `remove`
 
--- why nothing is removed
+-- the cause for which nothing is removed
 abbrev pub HasRemoveFault : DirFault → List ℕ → Contents → Type 0
 HasRemoveFault NotFound id d = member_named id d.entries ≡ None
 HasRemoveFault (Invalid fault) id d = ⊥

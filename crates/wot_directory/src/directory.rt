@@ -20,7 +20,7 @@ use std::marker::Model;
 use wot_json::{Bytes, Items, Text, Tree, copy, merge_patch, text_of};
 use wot_terms::{CheckFault, check};
 
-/// How many descriptions a directory may hold.
+/// The most descriptions that a directory may hold.
 const MOST_ENTRIES: usize = 4096;
 
 /// Descriptions by their ids, at most 4,096. Contracts see the list of ids and descriptions, in the byte order of
@@ -177,18 +177,19 @@ impl Directory {
         }
     }
 
-    /// What a patch makes of the description under an id.
+    /// The description under an id with a patch applied.
     fn merged(&self, id: &str, patch: &Tree) -> Result<Tree, DirFault>
         ensures ok { IfOk result (λ t. HoldsUnder id.now self.now (λ kept. IsPatched kept (json_of patch.now) (json_of t))) }
         ensures fault { IfErr result (λ e. HasPatchFault e id.now (json_of patch.now) self.now) }
     {
+        // A match and not `?`, since the proof of the fault cites that there is none.
         match self.entries.get(id) {
             Some(kept) => patched(self.alloc, kept, patch),
             None => Err(DirFault::NotFound),
         }
     }
 
-    /// Judges whether a description may take the place of that under an id, as what a patch makes of it is judged.
+    /// Judges whether a description may take the place of that under an id, as a patched one is judged.
     pub fn may_replace(&self, id: &str, tree: &Tree) -> Result<(), DirFault>
         ensures ok { OnOk result (MayReplace id.now (json_of tree.now) self.now) }
         ensures fault { IfErr result (λ e. HasReplaceFault e id.now (json_of tree.now) self.now) }
@@ -208,6 +209,7 @@ impl Directory {
         ensures absent { OnErr result (member_named id self.old.entries ≡ None) }
     {
         let key = id.into_string();
+        // A match and not `?`, since the error of the map has the entry too.
         match self.entries.insert(key, tree) {
             Ok(_) => Ok(()),
             Err(_) => Err(AllocError),
@@ -263,7 +265,7 @@ fn judge_replacement(alloc: Global, kept: &Tree, tree: &Tree) -> Result<(), DirF
     Ok(())
 }
 
-/// What a patch makes of a description.
+/// A description with a patch applied.
 fn patched(alloc: Global, kept: &Tree, patch: &Tree) -> Result<Tree, DirFault>
     ensures ok { IfOk result (λ t. IsPatched (json_of kept.now) (json_of patch.now) (json_of t)) }
     ensures fault { IfErr result (λ e. HasMergeFault e (json_of kept.now) (json_of patch.now)) }
@@ -306,6 +308,7 @@ fn listed_trees(
     let mut trees = Items::new(alloc);
     let mut skip = offset;
     let mut left = limit;
+    // A loop and not `skip` and `take`, since each copy may be out of memory.
     for (_, tree) in entries.iter() {
         if skip > 0 {
             skip -= 1;

@@ -4,7 +4,7 @@ use std::alloc::AllocError;
 use thiserror::Error;
 use wot_terms::TdFault;
 
-/// Why a directory does not do what it is asked.
+/// The cause for which a directory does not do what it is asked.
 #[derive(Debug, Drop, Error)]
 pub enum DirFault {
     /// There is no description under this id.

@@ -7,8 +7,8 @@ ghost use Rattle.wot_json.specs.Merge.{with_member, without_member};
 ghost use Rattle.wot_json.specs.Tree.{Json};
 ghost use Rattle.wot_directory.specs.Contents.{Entries};
 
-/// A description that was put under an id is got back from there as it was put, one that was removed is gone, and what
-/// is under any other id stays.
+/// A description that was put under an id is got back from there as it was put, one that was removed is gone, and the
+/// description under any other id stays.
 pub fn put_is_got_back()
     ensures put { (name id : List ℕ) → (description : Json) → (entries : Entries)
         → member_named name (with_member id description entries)

@@ -12,8 +12,8 @@
 //! assert!(matches!(directory.remove("urn:fan"), Err(DirFault::NotFound)));
 //! ```
 //!
-//! `may_put`, `may_create` and `may_replace` judge and change nothing, and `keep_under` and `count_on` do what was judged: so
-//! a crate that keeps more of each entry can take the memory for that in between.
+//! `may_put`, `may_create` and `may_replace` judge and change nothing, and `keep_under` and `count_on` change what was
+//! judged, so that a crate that keeps more of each entry can take the memory for that in between.
 //!
 //! The contract in a sentence: each call does what its step says, or gives the first fault that
 //! holds and changes nothing.

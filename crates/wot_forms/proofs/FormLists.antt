@@ -1,4 +1,4 @@
--- What a list of the tree has.
+-- The parts of a list of the tree.
 use Rattle.std.proofs.Common.{◌≡◌, List, map, ap}
 use Rattle.std.specs.List.{flat_map}
 use Rattle.wot_json.specs.Tree.{Json, array, elements_of}

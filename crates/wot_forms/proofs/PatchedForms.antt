@@ -1,4 +1,4 @@
--- What the patch of generated forms does to a description.
+-- The effect of the patch of generated forms on a description.
 use Rattle.std.proofs.Common.{◌≡◌, ℕ, List, [], ◌∷◌, ◌++◌, Option, Some, None, Bool, false, if◌then◌else◌, codes, unwrap_or, refl, sym, ap, subst, ◌∙◌, append-nil, append_assoc}
 use Rattle.std.specs.Str.{bytes_eq}
 use Rattle.wot_json.specs.Tree.{Json, null, object, array, Members, member, members_of, elements_of, AreOrdered}

@@ -1,4 +1,4 @@
--- How the logic keeps forms, as the kit asks in their `impl Model`. No contract names this.
+-- The codes of forms, which the kit asks for in their `impl Model`. No contract names this.
 use Rattle.std.specs.Prelude.{ℕ, List, Option, refl}
 use Rattle.std.specs.Coded.{Coded, code_by, coded×, coded_ℕ, coded_list, coded_option}
 use Rattle.wot_terms.specs.declared.op.Op.{Op}

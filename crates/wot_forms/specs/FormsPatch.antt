@@ -18,17 +18,17 @@ abbrev pub affordance_patch : Bases → List ℕ → Kind → List ℕ → Json 
 affordance_patch bases segment k name (object ms) = (name, forms_alone (generated_forms bases segment k name (object ms))) ∷ []
 affordance_patch bases segment k name v = []
 
--- that of all affordances of a kind
+-- the patch of all affordances of a kind
 abbrev pub affordances_patch : Bases → List ℕ → Kind → List (List ℕ × Json) → List (List ℕ × Json)
 affordances_patch bases segment k affordances = flat_map (λ m. affordance_patch bases segment k m.0 m.1) affordances
 
--- that of what a description has for a kind: none where it is no object
+-- the patch of the member of a description for a kind: none where it is no object
 abbrev pub holder_patch : Bases → List ℕ → Kind → Option Json → List (List ℕ × Json)
 holder_patch bases segment k (Some (object affordances)) =
     (holder k, object (members_of (affordances_patch bases segment k (member_list affordances)))) ∷ []
 holder_patch bases segment k held = []
 
--- that of the description as a whole, from its properties: its forms, or null, which takes them away
+-- the patch of the description as a whole, from its properties: its forms, or null, which takes them away
 abbrev pub root_patch : Bases → List ℕ → Option Json → Json
 root_patch bases segment (Some (object properties)) = array (elements_of (generated_root_forms bases segment (member_list properties)))
 root_patch bases segment held = null

@@ -22,7 +22,7 @@ use Rattle.wot_forms.specs.Forms.{default_ops}
 
 -- ## Where a form leads
 
--- what is before the path in the URLs of a protocol
+-- the part before the path in the URLs of a protocol
 abbrev pub base_of : Bases → Protocol → List ℕ
 base_of bases Http = bases.http
 base_of bases Coap = bases.coap
@@ -42,8 +42,8 @@ is_coap_segment name = nat_le (length name) 255 && not (bytes_eq name (codes "."
 
 -- ## One form
 
--- how a protocol brings the values of a property or of an event as they come: the form's subprotocol, and what its
--- path has after that of the affordance
+-- a protocol brings the values of a property or of an event as they come by the form's subprotocol, and by the part
+-- that its path has after that of the affordance
 abbrev pub subprotocol_of : Protocol → List ℕ
 subprotocol_of Http = codes "longpoll"
 subprotocol_of Coap = codes "cov:observe"

@@ -1,4 +1,4 @@
--- How the logic keeps operations, as the kit asks in their `impl Model`. No contract names this.
+-- The codes of operations, which the kit asks for in their `impl Model`. No contract names this.
 use Rattle.std.specs.Prelude.{◌≡◌, ℕ, List, refl, ◌==◌, if◌then◌else◌}
 use Rattle.std.specs.Coded.{Coded, code_by, coded_ℕ, coded_list}
 use Rattle.wot_terms.specs.declared.op.Op.{Op}

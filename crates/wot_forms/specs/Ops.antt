@@ -1,4 +1,4 @@
--- What a list of operations is in the code.
+-- A list of operations, as the code has it.
 use Rattle.std.specs.Prelude.{List}
 use Rattle.wot_terms.specs.declared.op.Op.{Op}
 use Rattle.wot_forms.specs.declared.ops.OpList.{OpList}

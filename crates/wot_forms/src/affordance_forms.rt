@@ -14,10 +14,10 @@ use std::alloc::Global;
 use wot_json::{Items, NoMemory, Tree};
 use wot_terms::{Kind, Op, flag};
 
-/// What a form for observing is for.
+/// The operations of a form for observing.
 const OBSERVING: &[Op] = &[Op::ObserveProperty, Op::UnobserveProperty];
 
-/// Where a Thing is served.
+/// The address at which a Thing is served.
 #[derive(Drop)]
 pub(crate) struct Address<'a> {
     pub(crate) bases: &'a Bases,

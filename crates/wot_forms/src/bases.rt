@@ -1,11 +1,11 @@
-//! Where the forms of a Thing lead: the protocols of a servient, and the bases of their URLs.
+//! The protocols of a servient, and the bases of their URLs, to which the forms of a Thing lead.
 
 ghost use Rattle.std.specs.Prelude.{◌≡◌};
 ghost use Rattle.wot_forms.specs.Generated.{base_of, observe_path as observe_path_of, subprotocol_of, subscribe_path as subscribe_path_of};
 
 use wot_json::Text;
 
-/// What the URLs of a servient begin with.
+/// The bases with which the URLs of a servient begin.
 #[derive(Debug, Drop)]
 pub struct Bases {
     /// `http://HOST:PORT`, without a `/` at the end.
@@ -22,7 +22,7 @@ pub(crate) enum Protocol {
 }
 
 impl Protocol {
-    /// What is before the path in its URLs.
+    /// The part of its URLs before the path.
     pub(crate) fn base(self, bases: &Bases) -> &str
         ensures { result.now ≡ base_of bases.now self }
     {
@@ -42,7 +42,7 @@ impl Protocol {
         }
     }
 
-    /// What the path for observing has after that of the property.
+    /// The part that the path for observing has after that of the property.
     pub(crate) fn observe_path(self) -> &'static str
         ensures { result.now ≡ observe_path_of self }
     {
@@ -52,7 +52,7 @@ impl Protocol {
         }
     }
 
-    /// What the path for subscribing has after that of the event.
+    /// The part that the path for subscribing has after that of the event.
     pub(crate) fn subscribe_path(self) -> &'static str
         ensures { result.now ≡ subscribe_path_of self }
     {

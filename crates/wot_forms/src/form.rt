@@ -10,13 +10,13 @@ use wot_json::{NoMemory, Text};
 /// A form (TD 1.1, section 5.3.4.2), with its defaults filled in.
 #[derive(Debug, Drop)]
 pub struct Form {
-    /// Where the operations are done, as it is written: `resolve` joins it to a base.
+    /// The URL of the operations, as it is written: `resolve` joins it to a base.
     pub href: Text,
-    /// What the form is for: its `op` as it is written, also where that names an operation twice.
+    /// The operations of the form: its `op` as it is written, also where that names an operation twice.
     pub ops: Ops,
     /// The media type of what is sent and received.
     pub content_type: Text,
-    /// How the protocol is used, as `longpoll`.
+    /// The way in which the protocol is used, as `longpoll`.
     pub subprotocol: Option<Text>,
     /// The HTTP method that the form names, `htv:methodName`.
     pub method: Option<Text>,

@@ -172,7 +172,7 @@ fn push_root_form(
     push_plain_form(alloc, url.as_str(), ops, forms)
 }
 
-/// What the forms of a description with these properties are for.
+/// The operations of the forms of a description with these properties.
 fn root_ops(properties: &[(Text, Tree)]) -> &'static [Op]
     ensures { result.now ≡ root_ops_of (json_members properties.now) }
 {

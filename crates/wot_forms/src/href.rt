@@ -10,7 +10,7 @@ use std::alloc::{AllocError, Global};
 use thiserror::Error;
 use wot_json::Text;
 
-/// Why an `href` names no URL.
+/// The reason for which an `href` names no URL.
 #[derive(Debug, Drop, Error)]
 pub enum HrefFault {
     /// The base is no URL, or the `href` can't be joined to it, or is no URL of its own where there is no base.

@@ -9,7 +9,7 @@ use std::alloc::Global;
 use wot_json::{NoMemory, Text};
 use wot_terms::Kind;
 
-/// How many bytes a segment of a path of CoAP has at most (RFC 7252, section 5.10).
+/// The most bytes of a segment of a path of CoAP (RFC 7252, section 5.10).
 const LONGEST_COAP_SEGMENT: usize = 255;
 
 /// The URL of the affordances of a kind.

@@ -111,7 +111,7 @@ no_tree_if_wrong d pointer (Some v) wrong e = absurd (none-some pointer (rw (non
 
 -- ---- the first wrong number
 
--- what names the first of these places names the first of these and more
+-- a fault that names the first of these places names the first of these and more
 pub NamesFirst-append : (places more : List (List (List ℕ))) (f : ReadFault) → NamesFirst places f → NamesFirst (places ++ more) f
 NamesFirst-append places more NotJson h = absurd h
 NamesFirst-append places more TooDeep h = absurd h

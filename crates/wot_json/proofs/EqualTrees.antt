@@ -1,4 +1,4 @@
--- When two arrays and two objects are the same value.
+-- Two arrays or two objects that are the same value.
 use Rattle.std.proofs.Common.{◌≡◌, ℕ, ◌<◌, List, [], ◌∷◌, ◌↔◌, IsTrue, Bool, map, length, get_or, false, refl, sym, ap, subst, ◌∙◌}
 use mathlib.Core.Bool.{false≢true}
 use Rattle.std.proofs.lemmas.List.{get_or-map}

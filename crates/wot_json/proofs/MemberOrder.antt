@@ -13,7 +13,7 @@ use Rattle.wot_json.specs.Cutting.{IsBefore, IsBeforeAll}
 abbrev Field : Type 0
 Field = List ℕ × Json
 
--- how two names compare, and that they test so
+-- two names compare, and test, in one of these ways
 pub data Compares (m n : List ℕ) : Type 0 where
   less : slice_cmp nat_cmp m n ≡ Less → bytes_eq m n ≡ false → Compares m n
   equal : slice_cmp nat_cmp m n ≡ Equal → m ≡ n → bytes_eq m n ≡ true → Compares m n

@@ -107,7 +107,7 @@ changed_fronts name v w [] ms behind = refl
 changed_fronts name v w (m ∷ before) ms behind =
     changed_front name v w m (before ++ ms) behind.0 ∙ ap (λ (xs : List Field). m ∷ xs) (changed_fronts name v w before ms behind.1)
 
--- what is added for a change stays before all later changes
+-- a member that is added for a change stays before all later changes
 merged_added : (name : List ℕ) (v w : Json) (ms : List Field) (changes : Members) → PrecedesChanges name changes → merged_members (added_members name v w ++ ms) changes ≡ added_members name v w ++ merged_members ms changes
 merged_added name null w ms changes before = refl
 merged_added name (boolean b) w ms changes before = merged_front (name, w) ms changes before
@@ -116,7 +116,7 @@ merged_added name (string s) w ms changes before = merged_front (name, w) ms cha
 merged_added name (array es) w ms changes before = merged_front (name, w) ms changes before
 merged_added name (object os) w ms changes before = merged_front (name, w) ms changes before
 
--- what a member of the patch makes of the members that are cut at its name
+-- a member of the patch, and the members that are cut at its name
 pub merged_at_cut : (name : List ℕ) (ms before : List Field) (value : Option Json) (behind : List Field) (v : Json) (changes : Members) → IsCutAt name ms before value behind → PrecedesChanges name changes
     → merged_members ms (member name v changes) ≡ (before ++ added_members name v (merge (unwrap_or value null) v)) ++ merged_members behind changes
 merged_at_cut name ms before value behind v changes cut later =

@@ -1,4 +1,4 @@
--- What each member is after a merge, and that the result of a merge is well formed.
+-- The members after a merge. The result of a merge is well formed.
 use Rattle.std.proofs.Common.{◌≡◌, ℕ, List, [], ◌∷◌, Option, Some, None, unwrap_or, false, refl, sym, ap, ◌∙◌}
 use Rattle.std.specs.Prelude.{IsUtf8, ⊤}
 use Rattle.std.specs.Str.{bytes_eq}
@@ -43,7 +43,7 @@ named_change name (object os) target ms = named_with name (merge (unwrap_or targ
 
 -- ---- the member of a name after a change of another
 
--- what a name tests as against one that is the same as another
+-- the test of a name against one that is the same as another
 same_test : (name other third : List ℕ) → bytes_eq name other ≡ false → other ≡ third → bytes_eq name third ≡ false
 same_test name other third differ same = ap (bytes_eq name) (sym same) ∙ differ
 

@@ -1,4 +1,4 @@
--- Which member a search by binary search finds among names in order.
+-- Binary search among names in order, and the member that it finds.
 use Rattle.std.proofs.Common.{◌≡◌, ℕ, zero, suc, ◌+◌, ◌<◌, List, [], ◌∷◌, length, get_or, Some, None, false, refl, sym, ap, inl, inr, ◌∙◌, arith}
 use Rattle.std.specs.Str.{bytes_eq}
 use Rattle.std.specs.Ordering.{nat_cmp, ordering_index, ordering_reverse, is_eq, is_lt}
@@ -45,7 +45,7 @@ pub comparisons_rise : (ms : List Named) (name : List ℕ) → AreOrdered (json_
 comparisons_rise ms name ordered = searchable_from_sorted nat_list_cmp_total (λ (m : Named). m.0) ms name
     (λ k d low within. ap is_lt (nat_list_cmp_total.antisymm (get_or ms (k + 1) d).0 (get_or ms k d).0 ∙ ap ordering_reverse (earlier_before ms ordered k (k + 1) d (omega arith) within)))
 
--- how a name tests against a member's that it compares to
+-- the test of a name against a member's that it compares to
 eq_from_cmp : (m name : List ℕ) (o : Ordering) → slice_cmp nat_cmp m name ≡ o → bytes_eq name m ≡ is_eq (ordering_reverse o)
 eq_from_cmp m name o is = sym (is_eq-slice_cmp name m) ∙ ap is_eq (nat_list_cmp_total.antisymm name m ∙ ap ordering_reverse is)
 
@@ -64,7 +64,7 @@ none_found (m ∷ ms) name d others =
     let first = others 0 (omega arith) in
     rw (eq_from_cmp m.0 name first.0 first.1 ∙ first.2) (none_found ms name d (λ k within. others (suc k) (omega arith)))
 
--- how a name of the list compares to the one that is looked for
+-- the order of a name of the list to the one that is looked for
 abbrev pub order_of : List ℕ → Named → Ordering
 order_of name m = slice_cmp nat_cmp m.0 name
 

@@ -22,7 +22,7 @@ use Rattle.std.proofs.lemmas.Bool.Decides.{nat_tests}
 use Rattle.wot_json.specs.Places.{token_byte, token_text, place_text, index_text, step_text, element_step_text}
 use Rattle.wot_json.proofs.Tokens.{token_byte-plain, token_text-plain}
 
--- what is left at a place begins with what is there
+-- the rest at a place begins with the element there
 pub drop_next : (xs : List ℕ) (i : ℕ) → i < length xs → drop i xs ≡ get_or xs i 0 ∷ drop (i + 1) xs
 drop_next xs i within = rw (add-one, drop-cons xs i 0)
 
@@ -208,13 +208,13 @@ cut_first tokens token (next ∷ more) x split is =
     let parts = split_after 47 tokens (token_text token) (token_text next ++ place_text more) (Some x) split (omega arith) is (no_slash token) in
     (parts.0, (next, more, refl, parts.1))
 
--- what is after a `/` is shorter than the whole
+-- the part after a `/` is shorter than the whole
 pub cut_shorter : (tokens : List ℕ) (x : Bor (List ℕ) × Bor (List ℕ)) → IsSplitOnceResult 47 tokens (Some x) → length x.1.now < length tokens
 cut_shorter tokens x split =
     let parts = split_parts 47 tokens (Some x) split (omega arith) in
     omega (arith, ap length parts.0, length-append x.0.now (47 ∷ x.1.now))
 
--- what is written for a byte has its `~` escaped, so it doesn't decide
+-- the text of a byte has its `~` escaped, so it doesn't decide
 escapes_byte : (b : ℕ) (rest : List ℕ) → escapes (token_byte b ++ rest) ≡ escapes rest
 escapes_byte b rest = elim (is_written b) [
   | tilde b_is text ↦ ap (λ (t : List ℕ). escapes (t ++ rest)) text

@@ -27,7 +27,7 @@ value_of-none bytes e = none_either (is_utf8 bytes) (read bytes) (λ is. e (IsUt
 abbrev unless_too_deep : Data → Option Json
 unless_too_deep d = cond (nat_le (depth d) MAX_DEPTH) (tree_of_value d) None
 
--- what the faults of a value say of the bytes that have it
+-- the faults of a value are those of the bytes that have it
 pub fault_if_named : (bytes : List ℕ) (d : Data) (f : ReadFault) → value_of bytes ≡ Some d → depth d ≤ MAX_DEPTH → NamesFirst (wrong_numbers d) f → HasReadFault bytes f
 fault_if_named bytes d NotJson value shallow named = absurd named
 fault_if_named bytes d TooDeep value shallow named = absurd named

@@ -1,4 +1,4 @@
--- What a fault of `read` says of the bytes.
+-- The meaning of each fault of `read`, as a statement on the bytes.
 use Rattle.std.specs.Prelude.{◌≡◌, ℕ, List, Some, None, ⊤}
 use Rattle.wot_json.specs.Reading.{value_of, first_pointer, IsTooDeep, IsFirstWrong}
 use Rattle.wot_json.specs.declared.reading.ReadFault.{ReadFault}

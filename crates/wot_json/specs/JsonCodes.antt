@@ -1,4 +1,4 @@
--- How the logic keeps a value: what the kit asks of the types that a `Model` shows. No contract names these.
+-- The codes of values, which the kit asks of the types that a `Model` shows. No contract names these.
 use Rattle.std.specs.Prelude.{◌≡◌, ℕ, ◌==◌, cond, ℤ, pos, List, [], ◌∷◌, true, false, refl}
 use Rattle.std.specs.Coded.{Coded, code_by, coded×, coded_ℕ, coded_ℤ, coded_list}
 use mathlib.Core.Path.{ap, ◌∙◌}
@@ -26,7 +26,7 @@ abbrev mutual
   member_nodes no_members k = (9, ([], pos 0)) ∷ k
   member_nodes (member n v ms) k = (10, (n, pos 0)) ∷ nodes v (member_nodes ms k)
 
--- what was built so far, from the last node on: values, lists of elements and lists of members
+-- the parts built so far, from the last node on: values, lists of elements and lists of members
 abbrev Built : Type 0
 Built = List Json × (List Elements × List Members)
 

@@ -34,7 +34,7 @@ changed_members name (string s) merged_value ms = with_member name merged_value 
 changed_members name (array es) merged_value ms = with_member name merged_value ms
 changed_members name (object os) merged_value ms = with_member name merged_value ms
 
--- what a member of the patch adds: nothing where it is null
+-- the members that a member of the patch adds: none where it is null
 abbrev pub added_members : List ℕ → Json → Json → List (List ℕ × Json)
 added_members name null merged_value = []
 added_members name (boolean b) merged_value = (name, merged_value) ∷ []

@@ -1,6 +1,6 @@
--- The tree of bytes. What text is JSON, and what value it has, is what the kit's `serde_json` says: there
--- an object has each name once, in byte order, with the value of the last member of that name. So a value is judged and
--- not its text: what is in a member that a later one of its name replaces doesn't count.
+-- The tree of bytes. The kit's `serde_json` decides whether a text is JSON and which value it has. There an object has
+-- each name once, in byte order, with the value of the last member of that name. So a value is judged and not its
+-- text: the content of a member that a later one of its name replaces doesn't count.
 use Rattle.std.specs.Prelude.{◌≡◌, ℕ, ◌+◌, ◌<◌, ◌≤◌, List, [], ◌∷◌, ◌++◌, map, slice_get, Option, Some, None, option_map, option_and_then, is_some, nat_le, if◌then◌else◌}
 use Rattle.std.specs.Str.{is_utf8}
 use Rattle.serde_json.specs.Data as json

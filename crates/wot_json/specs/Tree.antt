@@ -31,7 +31,7 @@ abbrev pub members_of : List (List ℕ × Json) → Members
 members_of [] = no_members
 members_of (m ∷ ms) = member m.0 m.1 (members_of ms)
 
--- how deep arrays and objects nest: 0 for a value that is neither, and one that is empty counts 1
+-- the depth to which arrays and objects nest: 0 for a value that is neither, and one that is empty counts 1
 abbrev mutual
   pub nesting : Json → ℕ
   nesting null = 0

@@ -1,4 +1,4 @@
--- What holds of the value of each tree.
+-- The condition that the value of each tree meets.
 use Rattle.std.specs.Prelude.{IsUtf8, FitsSigned, ⊤}
 use Rattle.std.specs.Int.{w64}
 use Rattle.wot_json.specs.Lookup.{member_list}

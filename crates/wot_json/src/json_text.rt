@@ -11,7 +11,7 @@ use itoa::Buffer;
 use servient_base::{NoMemory, put_piece};
 use std::alloc::{AllocError, Global};
 
-/// For how many bytes there is room at first.
+/// The bytes for which there is room at first.
 const FIRST_ROOM: usize = 64;
 
 /// Writes the text of a tree to the beginning of `out`, and returns its length. It takes no memory, and its time
@@ -72,7 +72,7 @@ pub fn quoted_length(text: &str, most: usize) -> Option<usize>
     Some(most - left)
 }
 
-/// How many bytes are written for one byte of a text.
+/// The number of bytes that are written for one byte of a text.
 fn escaped_length(byte: u8) -> usize
     ensures { result ≡ length (escaped_byte byte) }
 {
@@ -121,6 +121,7 @@ fn put_all_escaped(bytes: &[u8], out: &mut [u8], at: usize) -> Option<usize>
 {
     let mut end = at;
     for byte in bytes {
+        // A match and not `?`, since that gives the proof of the loop facts on `ControlFlow` alone.
         match put_escaped(out, end, *byte) {
             Some(next) => end = next,
             None => return None,

@@ -18,7 +18,7 @@ pub fn text_is_read_back()
     ensures { (v : Json) → IsWellFormed v → nesting v ≤ MAX_DEPTH → tree_of (text_of v) ≡ Some v }
 {}
 
-/// What a merge patch does, member by member (RFC 7396, section 2), and that its result is well formed.
+/// A merge patch acts member by member (RFC 7396, section 2), and its result is well formed.
 ///
 /// A member of the result is the target's where the patch doesn't name it, there is none where the patch has null, and
 /// else it is the merge of the patch's member on the target's, or on null where the target has none.
@@ -52,11 +52,11 @@ pub fn tree_is_well_formed(tree: &Tree)
         Tree::Null => {}
         Tree::Bool(_truth) => {}
         Tree::Int(number) => {
-            // For the proof: a number that was read has 64 bits with sign.
+            // Read for the proof, because a number that was read is known to have 64 bits with sign.
             let _fits = *number;
         }
         Tree::Text(text) => {
-            // For the proof: a text that was read is UTF-8.
+            // Read for the proof, because a text that was read is known to be UTF-8.
             let _utf8 = text.as_str();
         }
         Tree::List(items) => items_are_well_formed(items),
@@ -79,7 +79,7 @@ fn members_are_well_formed(members: &Members)
     ensures members { MembersAreWellFormed (members_of members.now) }
 {
     for (name, member) in &members.list {
-        // For the proof: a name that was read is UTF-8.
+        // Read for the proof, because a name that was read is known to be UTF-8.
         let _utf8 = name.as_str();
         tree_is_well_formed(member);
     }

@@ -120,7 +120,7 @@ fn member<'a>(members: &'a Members, token: &str) -> Option<&'a Tree>
     }
 }
 
-/// How a name compares to the one that a token writes.
+/// Compares a name to the one that a token writes.
 fn compare(name: &[u8], token: &[u8]) -> Ordering
     ensures { (other : List ℕ) → token.now ≡ token_text other → result ≡ slice_cmp nat_cmp name.now other }
 {

@@ -126,7 +126,7 @@ fn cut_at<'a>(
     }
 }
 
-/// How many members have names before this one.
+/// The number of members whose names are before this one.
 fn count_before(members: &[(Text, Tree)], name: &str) -> usize
     ensures bound { result ≤ length members.now }
     ensures before { (k : ℕ) → (d : List ℕ × Tree) → k < result → IsBefore (slice_index_or members.now k d).0 name.now }

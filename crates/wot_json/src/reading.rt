@@ -17,10 +17,10 @@ use serde_json::{Map, Value};
 use std::alloc::{AllocError, Global};
 use thiserror::Error;
 
-/// How deep lists and objects may nest. One that is empty counts 1.
+/// The most levels that lists and objects may nest. One that is empty counts 1.
 pub const MAX_DEPTH: u8 = 64;
 
-/// Why bytes are no tree.
+/// The reason for which bytes are no tree.
 #[derive(Debug, Drop, Error)]
 pub enum ReadFault {
     /// The bytes are not one JSON text in UTF-8 (RFC 8259, sections 2 and 8.1).

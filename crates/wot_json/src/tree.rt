@@ -108,7 +108,7 @@ impl Items {
         }
     }
 
-    /// How many elements there are.
+    /// The number of elements.
     pub fn len(&self) -> usize
         ensures { result ≡ length self.now }
     {
@@ -157,7 +157,7 @@ impl Members {
         }
     }
 
-    /// How many members there are.
+    /// The number of members.
     pub fn len(&self) -> usize
         ensures { result ≡ length self.now }
     {
@@ -203,7 +203,7 @@ impl Members {
         }
     }
 
-    /// What `get` gives, for contracts that speak of the object of these members.
+    /// The same as `get`, for contracts that speak of the object of these members.
     pub fn value_under(&self, name: &str) -> Option<&Tree>
         ensures { option_map (λ t. json_of t.now) result ≡ value_under name.now (members_of self.now) }
     {

@@ -1,4 +1,4 @@
--- What the calls come to, by what the directory and the times say.
+-- The results of the calls, by the answers of the directory and of the times.
 use Rattle.std.proofs.Common.{◌≡◌, ◌<◌, ℕ, List, length, refl, sym, ap, subst, ◌∙◌, inl, inr, Bool}
 use Rattle.std.specs.Prelude.{Option, Some, None, IsSome, is_none}
 use Rattle.wot_json.specs.Tree.{Json}
@@ -73,7 +73,7 @@ module _ (d kept : Json) (ttl : Option ℕ) (now : ℕ) (dir : Contents) (r : Re
 
 -- ---- `patch`
 
--- what holds of the description that a patch made, holds of what it is
+-- a fact of the description that a patch made holds of its value
 pub patched_holds : (id : List ℕ) (patch made : Json) (r : Registered) (P : Json → Type 0) → HoldsPatched id patch r (λ d. made ≡ d) → P made → HoldsPatched id patch r P
 patched_holds id patch made r P is holds = (is.0, is.1, subst P is.2 holds)
 

@@ -12,7 +12,7 @@ padded_in_digits k n =
     let none : k - length (decimal n) - 0 - 0 ≡ k - length (decimal n) = omega arith in
     rw none (ap (λ (l : List ℕ). replicate (k - length (decimal n)) 48 ++ l) (append-nil (decimal n)))
 
--- what `{:02}`, `{:03}` and `{:04}` write of a number
+-- the text that `{:02}`, `{:03}` and `{:04}` write of a number
 pub in_two_digits : (n : ℕ) → styled_decimal (format_spec 32 0 4 2 (2 ^ 64 - 1)) n ≡ in_digits 2 n
 in_two_digits n = padded_in_digits 2 n
 

@@ -1,4 +1,4 @@
--- What is due, and that all stands where nothing is.
+-- Entries that are due, and that all stand where none is.
 use Rattle.std.proofs.Common.{arith, ◌≡◌, ◌≤◌, ◌<◌, ℕ, List, [], ◌∷◌, length, refl, sym, ap, subst, ◌∙◌, Bool, true, false, cond}
 use Rattle.std.specs.Prelude.{Option, Some, None, String, string_bytes, not, nat_le, slice_get}
 use Rattle.std.specs.declared.alloc.Global.{Global}
@@ -59,7 +59,7 @@ some_length : {A : Type 0} (ks : List A) (k : A) → slice_get ks 0 ≡ Some k �
 some_length [] k is = absurd (cc (is))
 some_length (x ∷ ks) k is = omega arith
 
--- what is due is there
+-- an entry that is due is there
 pub due_there : (now : ℕ) (order : BTreeSet Placed) (due : Bool) → IsFirstDue now order due → due ≡ true → 0 < length order.keys
 due_there now order true is holds = some_length order.keys is.0 is.1
 due_there now order false is holds = absurd (cc (holds))

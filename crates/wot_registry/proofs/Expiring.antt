@@ -121,7 +121,7 @@ pub kept_here : (here : Bool) (x : ℕ) (t : Times) (was : Option Times) (before
 kept_here true x t was before some same = expires_mapped x was before (some refl) ∙ ap (λ (e : Option ℕ). is_moment x e) (sym same)
 kept_here false x t was before some same = refl
 
--- what was put is taken away again
+-- an entry that was put is taken away again
 undone : (e : Option ℕ) (x : ℕ) (b : Bool) → without_here e x true (with_here e x true false) ≡ false
 undone e x b = ap (λ (c : Bool). without_here e x true c) (with_true e x) ∙ without_true e x
 

@@ -1,4 +1,4 @@
--- When the directory is full.
+-- The directory is full.
 use Rattle.std.proofs.Common.{arith, ◌≡◌, ◌≢◌, ◌≤◌, ℕ, List, length, refl, sym, ap, subst, inl, inr, Bool}
 use Rattle.std.specs.Prelude.{◌↔◌, ◌⊎◌, ◌<◌, Option, Some, None, IsSome, slice_get, Result, Ok, Err, IfOk, IfErr}
 use Rattle.std.proofs.lemmas.List.{length-map}

@@ -1,4 +1,4 @@
--- What a directory gives out, by the changes that were made from the beginning.
+-- The entries that a directory gives out, by the changes that were made from the beginning.
 use Rattle.std.proofs.Common.{arith, ◌≡◌, ◌≤◌, ℕ, List, [], ◌∷◌, ◌++◌, refl, sym, ap, subst, ◌∙◌, inl, inr, Bool, true, false, cond}
 use Rattle.std.specs.Prelude.{Option, Some, None, not, nat_le, map, option_map}
 use Rattle.std.specs.Str.{bytes_eq}
@@ -159,7 +159,7 @@ module _ (epoch now : ℕ) (history : History) (s : Registered) (f : Follows epo
       by true same = ap (λ (t : Times). cond (stands later t) (Some d) None) (own_stands id all (same_id id own same)) ∙ new_named later (told id) d
       by false apart = sym (named_at later id s) ∙ f.named_are later from id
 
--- what stands at a moment stands at it
+-- entries that stand at a moment stand at it
 same_twice : (now : ℕ) (id : List ℕ) (r : Registered) → times_of id (standing now (standing now r)).times ≡ times_of id (standing now r).times
 same_twice now id r = times_again now now id r (omega arith)
 

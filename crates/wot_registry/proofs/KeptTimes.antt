@@ -1,4 +1,4 @@
--- How the map of times answers, in terms of the list of times.
+-- The answers of the map of times, in terms of the list of times.
 use Rattle.std.proofs.Common.{◌≡◌, ◌<◌, ◌+◌, ℕ, List, [], ◌∷◌, length, refl, sym, ap, subst, arith, ◌∙◌, Bool, false, cond, Bor}
 use Rattle.std.specs.Prelude.{Option, Some, None, option_map, option_copied, is_some, String, string_bytes}
 use Rattle.std.specs.declared.alloc.Global.{Global}
@@ -22,11 +22,11 @@ use Rattle.wot_registry.specs.Kept.{kept_times}
 abbrev Kept : Type 0
 Kept = List (String Global × Times)
 
--- what the map holds under a text
+-- the times that the map holds under a text
 abbrev pub found_in : List ℕ → Kept → Option Times
 found_in id es = lookup (is_at (λ k. slice_cmp nat_cmp id (string_bytes k))) es
 
--- what a look-up lends, by value
+-- the times that a look-up lends, by value
 lent_times : (r : Option (Bor Times)) → option_map (λ t. t.now) r ≡ option_copied r
 lent_times None = refl
 lent_times (Some t) = refl

@@ -1,4 +1,4 @@
--- What is listed of the directory, from copies of its entries.
+-- The list of the directory, from copies of its entries.
 use Rattle.std.proofs.Common.{◌≡◌, ℕ, List, [], ◌∷◌, refl, sym, ap, ◌∙◌}
 use Rattle.std.specs.Prelude.{map, take, drop}
 use Rattle.std.proofs.lemmas.List.{take-map, drop-map}

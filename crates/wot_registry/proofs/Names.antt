@@ -1,4 +1,4 @@
--- What is under an id once a list by ids was changed or only a part of it was kept.
+-- The entry under an id once a list by ids was changed or only a part of it was kept.
 use Rattle.std.proofs.Common.{◌≡◌, ℕ, List, [], ◌∷◌, refl, sym, ap, subst, ◌∙◌, inl, inr, Bool, true, false, cond}
 use Rattle.std.specs.Prelude.{Option, Some, None, not, filter}
 use Rattle.std.specs.Str.{bytes_eq}

@@ -1,4 +1,4 @@
--- What stands at a moment, and how taking away what is over leaves it.
+-- The entries that stand at a moment, and taking away those that are over.
 use Rattle.std.proofs.Common.{◌≡◌, ℕ, List, [], ◌∷◌, refl, sym, ap, subst, ◌∙◌, inl, inr, Bool, true, false, cond}
 use Rattle.std.specs.Prelude.{Option, Some, None, not, filter, is_some, Result, Ok, Err, OnOk, OnErr, IfErr}
 use Rattle.std.specs.Str.{bytes_eq}

@@ -17,7 +17,8 @@ pub record Day : Type 0 where
 abbrev pub first_day : Day
 first_day = record { year = 1970; month = 1; day = 1 }
 
--- the next day of the month; after its last day the first of the next month; after 31 December the first of the next year
+-- the next day of the month; after its last day the first of the next month; after 31 December the first of the next
+-- year
 abbrev pub day_after : Day → Day
 day_after d =
     if nat_lt d.day (days_in_month (pos d.year) d.month) then record { year = d.year; month = d.month; day = d.day + 1 }

@@ -24,7 +24,7 @@ pub data Change : Type 0 where
 abbrev pub History : Type 0
 History = List (ℕ × Change)
 
--- What a call at a moment does, and which changes it makes: one if it is done, and none if it is refused or only asks.
+-- A call at a moment, and the changes that it makes: one if it is done, and none if it is refused or only asks.
 pub data Does (now : ℕ) (r after : Registered) (made : History) : Type 0 where
   puts : (id : List ℕ) (description : Json) (is_new : Bool) (done : PutsAt id description now (standing now r) is_new after)
       → made ≡ (now, registered id (without_registration description) done.ttl) ∷ [] → Does now r after made
@@ -36,7 +36,7 @@ pub data Does (now : ℕ) (r after : Registered) (made : History) : Type 0 where
   removes : (id : List ℕ) → RemovesAt id (standing now r) after → made ≡ (now, removed id) ∷ [] → Does now r after made
   leaves : after ≡ standing now r → made ≡ [] → Does now r after made
 
--- What a directory that was empty came to be by calls at moments that never fall, the last of these moments, and the
+-- A directory that was empty becomes this by calls at moments that never fall, with the last of these moments, and the
 -- changes that were made.
 pub data Comes (epoch : ℕ) : ℕ → History → Registered → Type 0 where
   begins : (r : Registered) → r ≡ empty_registry epoch → Comes epoch 0 [] r
@@ -55,20 +55,20 @@ abbrev pub still : ℕ → Option Entry → Option Entry
 still now None = None
 still now (Some e) = if stands now e.times then Some e else None
 
--- what a change leaves under an id of what was there before: one that is registered while the entry before it stands keeps
--- its `created`
+-- the entry under an id after a change of the one that was there before: one that is registered while the entry before
+-- it stands keeps its `created`
 abbrev pub entry_after : List ℕ → ℕ → Change → Option Entry → Option Entry
 entry_after id now (registered other description ttl) before =
     if bytes_eq id other then Some (record { description = description; times = changed now ttl (option_map (λ e. e.times) (still now before)) })
     else before
 entry_after id now (removed other) before = if bytes_eq id other then None else before
 
--- what the last change of an id left there, whether its time has passed or not
+-- the entry that the last change of an id left there, whether its time has passed or not
 abbrev pub last_entry : List ℕ → History → Option Entry
 last_entry id [] = None
 last_entry id (c ∷ before) = entry_after id c.0 c.1 (last_entry id before)
 
--- what is to be given out under an id at a moment
+-- the description to be given out under an id at a moment
 abbrev pub due_out : ℕ → ℕ → List ℕ → History → Option Json
 due_out epoch now id history = option_map (λ e. shown epoch (Some e.times) e.description) (still now (last_entry id history))
 
@@ -95,8 +95,8 @@ IsFull r = most_entries ≤ length (shown_entries r)
 abbrev pub full : RegFault
 full = Directory Full
 
--- Unless it is out of memory, `put` answers that the directory is full exactly where no earlier fault holds, 4,096 entries
--- stand, and the id is new.
+-- Unless it is out of memory, `put` answers that the directory is full exactly where no earlier fault holds, 4,096
+-- entries stand, and the id is new.
 pub record IsPutInVain (id : List ℕ) (description : Json) (r : Registered) : Type 0 where
   pub asked : IsSome (asked_ttl description)
   pub valid : IsValid (without_registration description)

@@ -57,7 +57,7 @@ registered_as members = object (member (codes "registration") (object (members_o
 abbrev pub moment_value : ℕ → ℕ → Json
 moment_value epoch moment = string (date_text (epoch + moment))
 
--- what is said of the times of an entry
+-- the registration information that is said of the times of an entry
 abbrev pub said_of : ℕ → Times → Option ℕ → List (List ℕ × Json)
 said_of epoch t None =
     (codes "created", moment_value epoch t.created) ∷ (codes "modified", moment_value epoch t.modified) ∷ []

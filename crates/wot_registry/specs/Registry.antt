@@ -1,5 +1,6 @@
--- The steps of a directory whose entries have times (WoT Discovery, registration information). What is over at the moment
--- of a call is taken away before the call is judged, also where it is refused then: so each step is said of what stands.
+-- The steps of a directory whose entries have times (WoT Discovery, registration information). Entries that are over at
+-- the moment of a call are taken away before the call is judged, also where it is refused then: so each step is said of
+-- those that stand.
 use Rattle.std.specs.Prelude.{◌≡◌, ◌≤◌, ℕ, List, [], Option, Some, None, IsSome, Bool, map, option_map, is_some, refl}
 use Rattle.std.specs.Coded.{Coded, code_by, coded×, coded_ℕ}
 use Rattle.wot_json.specs.Tree.{Json, AreOrdered}
@@ -24,7 +25,7 @@ pub record Registered : Type 0 where
   pub times : List (List ℕ × Times)
   pub epoch : ℕ
 
--- how the logic keeps it: as the tuple of its fields
+-- its code, as the kit asks in an `impl Model`: the tuple of its fields
 abbrev pub registered_code : Coded Registered
 registered_code =
     code_by (Contents × (List (List ℕ × Times) × ℕ)) (coded× contents_code (coded× times_by_id_code coded_ℕ)) (λ r. (r.contents, (r.times, r.epoch)))
@@ -33,8 +34,8 @@ registered_code =
 abbrev pub empty_registry : ℕ → Registered
 empty_registry epoch = record { contents = empty_directory; times = []; epoch = epoch }
 
--- what always holds of it: each description has times and nothing else has, the descriptions are in the byte order of
--- their ids, and the clock began before the year 10000
+-- its invariant: each description has times and nothing else has, the descriptions are in the byte order of their ids,
+-- and the clock began before the year 10000
 pub record IsRegistry (r : Registered) : Type 0 where
   pub timed : (id : List ℕ) → is_some (times_of id r.times) ≡ is_some (member_named id r.contents.entries)
   pub ordered : AreOrdered r.contents.entries
@@ -60,7 +61,8 @@ without_id id r = record r { contents = without_entry id r.contents; times = wit
 
 -- ---- `put`
 
--- a description was put under the id that it has, without its registration information, and with the time to live that it asks for
+-- a description was put under the id that it has, without its registration information, and with the time to live that
+-- it asks for
 pub record PutsAt (id : List ℕ) (description : Json) (now : ℕ) (r : Registered) (is_new : Bool) (after : Registered) : Type 0 where
   pub ttl : Option ℕ
   pub asked : asked_ttl description ≡ Some ttl
@@ -68,7 +70,7 @@ pub record PutsAt (id : List ℕ) (description : Json) (now : ℕ) (r : Register
   pub puts : Puts id (without_registration description) r.contents is_new contents
   pub after_is : after ≡ changed_to contents id now ttl r
 
--- why it was not: the first of these that holds
+-- the cause for which it was not: the first of these that holds
 abbrev pub IsPutFault : RegFault → List ℕ → Json → Registered → Type 0
 IsPutFault Ttl id description r = asked_ttl description ≡ None
 IsPutFault (Directory fault) id description r =
@@ -84,7 +86,7 @@ pub record CreatesAt (description : Json) (now : ℕ) (r : Registered) (id : Lis
   pub creates : Creates (without_registration description) r.contents id contents
   pub after_is : after ≡ changed_to contents id now ttl r
 
--- why it was not: the first of these that holds
+-- the cause for which it was not: the first of these that holds
 abbrev pub IsCreateFault : RegFault → Json → Registered → Type 0
 IsCreateFault Ttl description r = asked_ttl description ≡ None
 IsCreateFault (Directory fault) description r =
@@ -101,8 +103,8 @@ own_ttl (Some t) = t.ttl
 abbrev pub HoldsPatched : List ℕ → Json → Registered → (Json → Type 0) → Type 0
 HoldsPatched id patch r P = HoldsUnder id r.contents (λ kept. P (merge (with_ttl (own_ttl (times_of id r.times)) kept) patch))
 
--- a description took the place of that under an id, without its registration information, and with the time to live that
--- it asks for
+-- a description took the place of that under an id, without its registration information, and with the time to live
+-- that it asks for
 pub record ReplacesAt (id : List ℕ) (description : Json) (now : ℕ) (r after : Registered) : Type 0 where
   pub ttl : Option ℕ
   pub asked : asked_ttl description ≡ Some ttl
@@ -114,12 +116,12 @@ pub record ReplacesAt (id : List ℕ) (description : Json) (now : ℕ) (r after 
 abbrev pub PatchesAt : List ℕ → Json → ℕ → Registered → Registered → Type 0
 PatchesAt id patch now r after = HoldsPatched id patch r (λ description. ReplacesAt id description now r after)
 
--- why a description does not take that place, where one is there
+-- the cause for which a description does not take that place, where one is there
 abbrev pub IsReplaceFault : DirFault → List ℕ → Json → Registered → Type 0
 IsReplaceFault fault id description r =
     IsSome (asked_ttl description) × HasReplaceFault fault id (without_registration description) r.contents
 
--- why it was not patched: the first of these that holds
+-- the cause for which it was not patched: the first of these that holds
 abbrev pub IsPatchFault : RegFault → List ℕ → Json → Registered → Type 0
 IsPatchFault Ttl id patch r = HoldsPatched id patch r (λ description. asked_ttl description ≡ None)
 IsPatchFault (Directory NotFound) id patch r = member_named id r.contents.entries ≡ None
@@ -136,7 +138,7 @@ pub record RemovesAt (id : List ℕ) (r after : Registered) : Type 0 where
   pub found : IsSome (member_named id r.contents.entries)
   pub after_is : after ≡ without_id id r
 
--- why it was not
+-- the cause for which it was not
 abbrev pub IsRemoveFault : RegFault → List ℕ → Registered → Type 0
 IsRemoveFault Ttl id r = ⊥
 IsRemoveFault (Directory fault) id r = HasRemoveFault fault id r.contents

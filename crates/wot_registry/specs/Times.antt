@@ -7,13 +7,13 @@ use Rattle.std.specs.Ordering.{nat_cmp}
 use Rattle.std.specs.Cmp.Lexicographic.{slice_cmp}
 use Rattle.std.specs.Str.{bytes_eq}
 
--- when an entry was created and last changed, and its time to live in seconds, where it has one
+-- the moments at which an entry was created and last changed, and its time to live in seconds, where it has one
 pub record Times : Type 0 where
   pub created : ℕ
   pub modified : ℕ
   pub ttl : Option ℕ
 
--- how the logic keeps it: as the tuple of its fields
+-- its code, as the kit asks in an `impl Model`: the tuple of its fields
 abbrev pub times_code : Coded Times
 times_code =
     code_by (ℕ × (ℕ × Option ℕ)) (coded× coded_ℕ (coded× coded_ℕ (coded_option coded_ℕ))) (λ t. (t.created, (t.modified, t.ttl))) (λ p. record { created = p.0; modified = p.1.0; ttl = p.1.1 }) (λ _. refl)
@@ -52,7 +52,7 @@ with_times id t ts = insert_entry (slice_cmp nat_cmp) ts id t
 abbrev pub without_times : List ℕ → List (List ℕ × Times) → List (List ℕ × Times)
 without_times id ts = filter (λ e. not (bytes_eq id e.0)) ts
 
--- what is under this id stands at a moment: no time to live of it has passed
+-- the entry under this id stands at a moment: no time to live of it has passed
 abbrev pub stands_by : ℕ → Option Times → Bool
 stands_by now None = true
 stands_by now (Some t) = stands now t

@@ -4,7 +4,7 @@ use std::alloc::AllocError;
 use thiserror::Error;
 use wot_directory::DirFault;
 
-/// Why a registry does not do what it is asked.
+/// The cause for which a registry does not do what it is asked.
 #[derive(Debug, Drop, Error)]
 pub enum RegFault {
     /// `registration` is no object, or its `ttl` is no whole number of seconds from 1 to 31,536,000.

@@ -1,14 +1,14 @@
 //! A directory of Thing Descriptions whose entries have times (WoT Discovery, registration information). It has no
 //! clock: each call is handed its moment.
 //!
-//! A `Registry` keeps descriptions by their ids, as `wot_directory` does, and when each was created and last changed.
-//! One that asks for a time to live is gone once that has passed since its last change; what is over at the moment of a
-//! call is taken away before anything is judged. Each call is one step over what stands then (`specs/Registry.antt`),
-//! and over all calls exactly that is given out which stands (`specs/Laws.antt`).
+//! A `Registry` keeps descriptions by their ids, as `wot_directory` does, and the moments at which each was created and
+//! last changed. One that asks for a time to live is gone once that has passed since its last change; entries that are
+//! over at the moment of a call are taken away before anything is judged. Each call is one step over the entries that
+//! stand then (`specs/Registry.antt`), and over all calls exactly those are given out (`specs/Laws.antt`).
 //!
 //! Its parts serve by themselves: `date_text` gives the text of the UTC date and time that lies some milliseconds after
 //! the start of 1970 (`specs/Dates.antt`), `asked_ttl` reads the time to live that a description asks for,
-//! `without_registration` is what is kept of it, and `show` says the `Times` of an entry in it
+//! `without_registration` leaves out its registration information, and `show` says the `Times` of an entry in it
 //! (`specs/Registration.antt`).
 //!
 //! ```text

@@ -1,4 +1,5 @@
-//! The registration information of a description (WoT Discovery): what is asked for by it, and what is said in it.
+//! The registration information of a description (WoT Discovery): the time to live that it asks for, and the times that
+//! it says.
 
 ghost use Rattle.std.specs.Prelude.{◌≡◌, ◌≤◌, ◌+◌, ◌*◌, ◌++◌, ◌∷◌, [], None, Some, option_map, IfOk, IfErr, OnOk, pos, codes};
 ghost use Rattle.wot_json.specs.Tree.{integer, string, AreOrdered};
@@ -92,7 +93,7 @@ fn put_ttl(alloc: Global, members: &mut Members, seconds: u32) -> Result<(), NoM
     members.push(name, Tree::Int(i64::from(seconds)))
 }
 
-/// Puts what is said of the times of an entry without a time to live.
+/// Puts the times of an entry without a time to live.
 fn say_lasting(
     alloc: Global,
     epoch: u64,
@@ -107,7 +108,7 @@ fn say_lasting(
     put_moment(alloc, members, "modified", epoch + times.modified())
 }
 
-/// Puts what is said of the times of an entry with this time to live.
+/// Puts the times of an entry with this time to live.
 fn say_passing(
     alloc: Global,
     epoch: u64,
@@ -140,7 +141,7 @@ fn registered(alloc: Global, said: Members) -> Result<Tree, NoMemory>
     Ok(Tree::Obj(members))
 }
 
-/// What is said of the times of an entry.
+/// The registration information of an entry.
 fn said(alloc: Global, epoch: u64, times: &Times) -> Result<Tree, NoMemory>
     requires { epoch ≤ last_millisecond }
     ensures { IfOk result (λ t. json_of t ≡ registered_as (said_of epoch times.now times.now.ttl)) }

@@ -23,10 +23,10 @@ use wot_directory::{DirFault, Directory, local_id};
 use wot_json::{Bytes, Items, Text, Tree, merge_patch, text_of};
 
 /// Descriptions by their ids, at most 4,096, and the times of each. Contracts see the list of ids and descriptions in
-/// the byte order of the ids, that of their times, and when the clock began. Moments are milliseconds of that clock, at
-/// most 10^15, and should not fall: what is over at the moment of a call is gone from then on. Taking that away needs
-/// no memory, costs the logarithm of the number of entries for each that goes, and holds also where the call is
-/// refused.
+/// the byte order of the ids, that of their times, and the moment at which the clock began. Moments are milliseconds of
+/// that clock, at most 10^15, and should not fall, since an entry that is over at the moment of a call is gone from
+/// then on. Taking that away needs no memory, costs the logarithm of the number of entries for each that goes, and
+/// holds also where the call is refused.
 #[derive(Drop)]
 pub struct Registry {
     alloc: Global,
@@ -234,7 +234,7 @@ impl Registry {
         }
     }
 
-    /// What a patch makes of the description under an id.
+    /// The description under an id with a patch applied.
     fn patched(&self, id: &str, patch: &Tree) -> Result<Tree, RegFault>
         ensures ok { IfOk result (λ t. HoldsPatched id.now (json_of patch.now) self.now (λ description. json_of t ≡ description)) }
         ensures fault { IfErr result (λ e. IsPatchFault e id.now (json_of patch.now) self.now) }

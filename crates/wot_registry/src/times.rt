@@ -2,8 +2,8 @@
 
 use std::marker::Model;
 
-/// When an entry was created and last changed, and its time to live in seconds, where it has one. Moments are at most
-/// 10^15 milliseconds, so that sums of them fit.
+/// The moments at which an entry was created and last changed, and its time to live in seconds, where it has one.
+/// Moments are at most 10^15 milliseconds, so that sums of them fit.
 #[derive(Drop)]
 pub struct Times {
     created: u64,
@@ -45,7 +45,7 @@ impl Times {
         }
     }
 
-    /// When the entry was created.
+    /// The moment at which the entry was created.
     pub fn created(&self) -> u64
         ensures is { result ≡ self.now.created }
         ensures bound { result ≤ last_moment }
@@ -53,7 +53,7 @@ impl Times {
         self.created
     }
 
-    /// When the entry was last changed.
+    /// The moment at which the entry was last changed.
     pub fn modified(&self) -> u64
         ensures is { result ≡ self.now.modified }
         ensures bound { result ≤ last_moment }

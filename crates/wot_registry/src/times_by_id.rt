@@ -7,8 +7,8 @@ use std::collections::{BTreeMap, BTreeSet};
 use std::marker::Model;
 use wot_json::Text;
 
-/// The times of all entries. Contracts see the list of ids and times, in the byte order of the ids. What expires first
-/// is found at once, and each call costs the logarithm of the number of entries.
+/// The times of all entries. Contracts see the list of ids and times, in the byte order of the ids. The entry that
+/// expires first is found at once, and each call costs the logarithm of the number of entries.
 #[derive(Drop)]
 pub(crate) struct TimesById {
     alloc: Global,
@@ -62,6 +62,7 @@ impl TimesById {
         ensures ok { OnOk result (self.new ≡ with_times id.now times self.old) }
         ensures unchanged { OnErr result (self.new ≡ self.old) }
     {
+        // The copies are taken first, so that all stays as it was where one finds no memory.
         let key = String::from_str(self.alloc, id)?;
         let placed = String::from_str(self.alloc, id)?;
         let replaced = String::from_str(self.alloc, id)?;

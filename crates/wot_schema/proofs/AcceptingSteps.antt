@@ -22,7 +22,7 @@ Named = List ℕ × Json
 pub not_both : (b : Bool) → b ≡ false → b ≡ true → ⊥
 not_both b no_b yes_b = cc
 
--- what doesn't meet the rules is refused
+-- a value that doesn't meet the rules is refused
 pub refused_by_rules : (a : Inside) (n : List Named) (v : Json) (b : Bool) → node_members a ≡ n → (IsTrue b ↔ IsAllowed a.rules v) → b ≡ false → IsTrue false ↔ Accepts (schema_of n) v
 refused_by_rules a n v b is rules refused =
     subst (λ (m : List Named). IsTrue false ↔ Accepts (schema_of m) v) is

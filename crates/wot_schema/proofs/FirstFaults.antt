@@ -21,7 +21,7 @@ Faults = List SchemaFault
 abbrev Outcome : Type 0
 Outcome = Result (Unit {0}) SchemaFault
 
--- what was found of the first part is found of all
+-- the finding of the first part is that of all
 pub stops : (f g : Faults) (e : SchemaFault) → FindsFirst f (Err e) → FindsFirst (f ++ g) (Err e)
 stops [] g schema_fault.NoMemory first = absurd cc
 stops [] g (schema_fault.Malformed p) first = absurd cc
@@ -91,7 +91,7 @@ rest_none (x ∷ f) g none = absurd cc
 pub parts_none : (f g : Faults) → f ++ g ≡ [] → (f ≡ []) × (g ≡ [])
 parts_none f g none = (first_none f g none, rest_none f g none)
 
--- what has no fault through a step has none
+-- faults that are none through a step are none
 pub none_through : (step : List ℕ) (fs : Faults) → map (fault_through step) fs ≡ [] → fs ≡ []
 none_through step [] none = refl
 none_through step (f ∷ fs) none = absurd cc

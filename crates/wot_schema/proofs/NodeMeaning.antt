@@ -1,4 +1,4 @@
--- What the schema of a node asks of a value.
+-- The schema of a node, and its demands on a value.
 use Rattle.std.proofs.Common.{◌≡◌, ◌↔◌, ◌&&◌, ℕ, List, [], ◌∷◌, Option, Some, None, IfSome, MatchBool, Bool, true, false, not, codes, refl, sym, ap, subst, if◌then◌else◌}
 use Rattle.std.specs.Prelude.{Vec}
 use Rattle.std.specs.Option.{option_map}
@@ -93,7 +93,7 @@ within_found holder (member n s ms) v =
 pub within_is : (holder : Holder) (ms : Members) (v : Json) (o : Option Json) → value_under (name_of holder) ms ≡ o → Within holder ms v ↔ IfSome o (λ s. Asks holder s v)
 within_is holder ms v o is = subst (λ (p : Option Json). Within holder ms v ↔ IfSome p (λ s. Asks holder s v)) is (within_found holder ms v)
 
--- what the schemas below a node ask
+-- the demands of the schemas below a node
 pub one_of_node : (a : Inside) (v : Json) → Within one_of (members_of (node_members a)) v ↔ IfSome (option_map (λ (nodes : Vec Node Global). list_of nodes.items) a.alternatives) (λ s. Asks one_of s v)
 one_of_node a v = within_is one_of (members_of (node_members a)) v _ (found_present (codes "oneOf") (node_rows a) refl)
 

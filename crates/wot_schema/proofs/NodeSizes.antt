@@ -1,4 +1,4 @@
--- How the sizes of nodes fall, by which the check sees that a recursion over them ends.
+-- The sizes of nodes fall, by which the check sees that a recursion over them ends.
 use Rattle.std.proofs.Common.{◌≡◌, ◌≤◌, ◌+◌, ◌*◌, List, [], ◌∷◌, map, ap, arith}
 use Rattle.std.specs.Prelude.{Vec}
 use Rattle.std.specs.declared.alloc.Global.{Global}

@@ -1,4 +1,4 @@
--- That compiled rules ask what the rows of their schema ask.
+-- Compiled rules ask for the same as the rows of their schema.
 use Rattle.std.proofs.Common.{◌≡◌, ◌↔◌, ◌≤◌, ℕ, ℤ, pos, ◌≤ℤ◌, ◌<ℤ◌, ◌*ℤ◌, List, [], ◌∷◌, Option, Some, None, IfSome, map, codes, ap, inl, inr, arith}
 use Rattle.std.specs.Prelude.{Vec, ⊤}
 use Rattle.std.proofs.lemmas.Int.{ints}
@@ -66,7 +66,7 @@ objects : {A : Type 0} (v : Json) (m : Option A) (Q : A → Members → Type 0) 
 objects (object ms) m Q = (λ h. h, λ h. h)
 objects v m Q = (λ h. free m, λ h. tt)
 
--- what the rules ask of the contents of a value, type by type
+-- the demands of the rules on the contents of a value, type by type
 record Parts (r : Rules) (v : Json) : Type 0 where
   numbers : IfInteger v (IsNumberWithin r.numbers)
   characters : IfString v (λ t. IsCountWithin r.characters (code_points t))

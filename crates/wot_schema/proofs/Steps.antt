@@ -8,7 +8,7 @@ use Rattle.wot_schema.specs.Values.{EachElement}
 use Rattle.wot_schema.specs.Acceptance.{Accepts, ExactlyOne, AcceptNone}
 use Rattle.wot_schema.specs.Nodes.{schema_of}
 
--- what is left of a list at a place
+-- the rest of a list at a place
 pub rest_at : {A : Type 0} (xs : List A) (i : ℕ) (x : A) → i < length xs → x ≡ get_or xs i x → drop i xs ≡ x ∷ drop (i + 1) xs
 rest_at xs i x within is = drop_more xs i x within ∙ ap (λ y. y ∷ drop (i + 1) xs) (sym is)
 

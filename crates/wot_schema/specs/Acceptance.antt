@@ -1,4 +1,4 @@
--- Which values a data schema accepts (TD 1.1 section 5.3.2, whose words are those of JSON Schema).
+-- The values that a data schema accepts (TD 1.1 section 5.3.2, whose words are those of JSON Schema).
 --
 -- It is said of the schema's tree, member by member, because code may then compile a schema and leave out what says
 -- nothing. A member of the wrong form says nothing, and a schema that is no object accepts nothing; no schema that is
@@ -18,11 +18,11 @@ type_of (string t) = codes "string"
 type_of (array es) = codes "array"
 type_of (object ms) = codes "object"
 
--- what the member of this name says, where the schema has one that is an integer
+-- the demand of the member of this name, where the schema has one that is an integer
 abbrev pub IfIntegerNamed : List ℕ → Members → (ℤ → Type 0) → Type 0
 IfIntegerNamed name ms P = IfSome (value_under name ms) (λ s. IfInteger s P)
 
--- what the member of this name says, where the schema has one that is a list
+-- the demand of the member of this name, where the schema has one that is a list
 abbrev pub IfArrayNamed : List ℕ → Members → (Elements → Type 0) → Type 0
 IfArrayNamed name ms P = IfSome (value_under name ms) (λ s. IfArray s P)
 
@@ -30,8 +30,8 @@ IfArrayNamed name ms P = IfSome (value_under name ms) (λ s. IfArray s P)
 abbrev pub AreNamesIn : Elements → Members → Type 0
 AreNamesIn names members = EachElement (λ name. IfString name (λ n. IsSome (value_under n members))) names
 
--- What the members of a schema that hold no schemas ask of a value, row by row (sections 5.3.2.1 to 5.3.2.8). A
--- value of another type than a row speaks of is not asked for anything.
+-- The demands on a value of those members of a schema that hold no schemas, row by row (sections 5.3.2.1 to 5.3.2.8).
+-- A value of another type than a row speaks of is not asked for anything.
 pub record Rows (ms : Members) (v : Json) : Type 0 where
   pub type : IfSome (value_under (codes "type") ms) (λ s. s ≡ string (type_of v))
   pub constant : IfSome (value_under (codes "const") ms) (λ s. v ≡ s)
@@ -62,7 +62,7 @@ abbrev mutual
   Accepts (object ms) v = Rows ms v × ((holder : Holder) → Within holder ms v)
   Accepts _ v = ⊥
 
-  -- what the schemas below a member of the schema ask of the value, where it has that member
+  -- the demands on the value of the schemas below a member of the schema, where it has that member
   pub Within : Holder → Members → Json → Type 0
   Within holder no_members v = ⊤
   Within holder (member n s ms) v = MatchBool (bytes_eq (name_of holder) n) (Asks holder s v) (Within holder ms v)

@@ -1,4 +1,4 @@
--- How the code names what a row of the table asks for, and what a check finds; for private clauses.
+-- The code's names of the demands of the table's rows and of the findings of a check; for private clauses.
 use Rattle.std.specs.Prelude.{◌≡◌, ℕ, List, [], Some, IsSome, Result, Ok, Err, slice_get}
 use Rattle.wot_schema.specs.declared.fault.SchemaFault.{SchemaFault}
 use Rattle.wot_schema.specs.declared.fault.SchemaFault.TheVariants as schema_fault
@@ -13,7 +13,7 @@ FindsFirst faults (Err schema_fault.NoMemory) = IsSome (slice_get faults 0)
 FindsFirst faults (Err (schema_fault.Malformed place)) = slice_get faults 0 ≡ Some (schema_fault.Malformed place)
 FindsFirst faults (Err (schema_fault.Unsupported place word)) = slice_get faults 0 ≡ Some (schema_fault.Unsupported place word)
 
--- what is asked of the member of this name
+-- the demand on the member of this name
 abbrev pub judge_of : List ℕ → Shape → Judge
 judge_of name shape.Nothing s = nothing name s
 judge_of name shape.TypeName s = type_name s

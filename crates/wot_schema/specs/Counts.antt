@@ -1,4 +1,4 @@
--- What a compiled range asks of a count.
+-- A compiled range, and its demands on a count.
 use Rattle.std.specs.Prelude.{ℕ, ◌≤◌, IfSome}
 use Rattle.wot_schema.specs.declared.counts.CountRange.{CountRange}
 

@@ -1,4 +1,4 @@
--- What is wrong with a data schema: `schema_faults` lists all of it, `table` says what each member must be.
+-- The faults of a data schema: `schema_faults` lists them all, `table` says what each member must be.
 -- Places are seen from the value that has the fault, because each part then reports its own; the level above
 -- puts its step before them.
 use Rattle.std.specs.Prelude.{◌≡◌, ◌⊎◌, ◌&&◌, Bool, true, false, ℕ, ◌+◌, pos, suc, List, [], ◌∷◌, ◌++◌, map, Some, IfSome, codes, slice_get, if◌then◌else◌}

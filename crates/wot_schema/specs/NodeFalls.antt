@@ -1,4 +1,4 @@
--- That the nodes below a node nest less deep than it, as the kit asks in its `impl Model`. No contract names this.
+-- The nodes below a node nest less deep than it, as the kit asks in its `impl Model`. No contract names this.
 use Rattle.std.specs.Prelude.{ℕ, ◌+◌, ◌≤◌, List, [], ◌∷◌, ◌++◌, map, Option, Some, None, Vec, codes}
 use Rattle.std.specs.declared.alloc.Global.{Global}
 use Rattle.std.proofs.Common.{arith}

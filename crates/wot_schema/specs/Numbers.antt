@@ -1,4 +1,4 @@
--- What compiled rules ask of an integer, and which members of a schema they were compiled from.
+-- The demands of compiled rules on an integer, and the members of a schema that they were compiled from.
 use Rattle.std.specs.Prelude.{◌≡◌, ℤ, pos, ◌≤ℤ◌, ◌<ℤ◌, ◌*ℤ◌, IfSome, codes}
 use Rattle.std.specs.Option.{option_map}
 use Rattle.wot_json.specs.Tree.{integer, Members}

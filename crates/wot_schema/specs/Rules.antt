@@ -1,4 +1,4 @@
--- What compiled rules ask of a value, and which members of a schema they were compiled from.
+-- The demands of compiled rules on a value, and the members of a schema that they were compiled from.
 use Rattle.std.specs.Prelude.{◌≡◌, ℕ, pos, ◌⊎◌, List, [], ◌∷◌, IfSome, IsSome, ⊤, codes, map}
 use Rattle.std.specs.Option.{option_map}
 use Rattle.wot_json.specs.Tree.{Json, null, boolean, integer, string, array, object, Members, elements_of}
@@ -22,7 +22,7 @@ abbrev pub HasAll : Members → List (List ℕ) → Type 0
 HasAll ms [] = ⊤
 HasAll ms (n ∷ ns) = IsSome (value_under n ms) × HasAll ms ns
 
--- what the rules ask of a number, a text, a list and an object
+-- the demands of the rules on a number, a text, a list and an object
 abbrev pub AreContentsAllowed : Rules → Json → Type 0
 AreContentsAllowed r (integer n) = IsNumberWithin r.numbers n
 AreContentsAllowed r (string t) = IsCountWithin r.characters (code_points t)

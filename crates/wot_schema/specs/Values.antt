@@ -37,6 +37,6 @@ abbrev pub element_count : Elements → ℕ
 element_count no_elements = 0
 element_count (element v es) = element_count es + 1
 
--- How many characters, which is code points, a text in UTF-8 has (RFC 8259 section 8.2; RFC 3629 section 3).
+-- The number of characters, which is code points, of a text in UTF-8 (RFC 8259 section 8.2; RFC 3629 section 3).
 abbrev pub code_points : List ℕ → ℕ
 code_points text = length (chars text)

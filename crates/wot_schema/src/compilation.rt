@@ -42,7 +42,7 @@ fn compile_members(alloc: Global, members: &Members) -> Result<Node, NoMemory>
     })
 }
 
-/// What `oneOf` holds.
+/// Compiles the value of `oneOf`.
 #[cycle(compilation)]
 fn compile_alternatives(alloc: Global, members: &Members) -> Result<Option<Vec<Node>>, NoMemory>
     requires { faults_within one_of (members_of members.now) ≡ [] }
@@ -67,7 +67,7 @@ fn alternatives_in(alloc: Global, tree: &Tree) -> Result<Option<Vec<Node>>, NoMe
     }
 }
 
-/// What `items` holds.
+/// Compiles the value of `items`.
 #[cycle(compilation)]
 fn compile_items(alloc: Global, members: &Members) -> Result<ItemRule, NoMemory>
     requires { faults_within items_row (members_of members.now) ≡ [] }
@@ -106,7 +106,7 @@ fn boxed(alloc: Global, node: Node) -> Result<Box<Node>, NoMemory>
     Ok(node)
 }
 
-/// What `properties` holds.
+/// Compiles the value of `properties`.
 #[cycle(compilation)]
 fn compile_properties(alloc: Global, members: &Members) -> Result<Vec<(Text, Node)>, NoMemory>
     requires { faults_within properties_row (members_of members.now) ≡ [] }

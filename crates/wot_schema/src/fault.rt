@@ -1,4 +1,4 @@
-//! What is wrong with a schema, and what a check finds.
+//! The faults of a schema, and the findings of a check.
 
 ghost use Rattle.std.specs.Prelude.{◌≡◌, ◌++◌, List, ℕ, map, Err, IfOk};
 ghost use Rattle.wot_schema.specs.Checks.{FindsFirst};
@@ -10,7 +10,7 @@ use std::alloc::Global;
 use thiserror::Error;
 use wot_json::{Text, through_element, through_member};
 
-/// Why a tree is no schema that this product reads.
+/// The reason for which a tree is no schema that this product reads.
 #[derive(Debug, Drop, Error)]
 pub enum SchemaFault {
     /// A member that is not supported: its JSON Pointer (RFC 6901), and its name, or `number` for a type.
@@ -35,17 +35,17 @@ impl From<NoMemory> for SchemaFault {
     }
 }
 
-/// What a check finds: nothing, or the first fault, with its place seen from what was checked.
+/// The finding of a check: nothing, or the first fault, with its place seen from the value that was checked.
 pub(crate) type Found = Result<(), SchemaFault>;
 
-/// That a value has another form than is asked for.
+/// Reports that a value has another form than is asked for.
 pub(crate) fn malformed(alloc: Global) -> Found
     ensures { FindsFirst wrong_form result }
 {
     Err(SchemaFault::Malformed(Text::from_string(String::new(alloc))))
 }
 
-/// That a value is not supported, or is a word that is not.
+/// Reports that a value is not supported, or is a word that is not.
 pub(crate) fn unsupported(alloc: Global, word: &str) -> Found
     ensures { FindsFirst (unsupported_word word.now) result }
 {
@@ -53,7 +53,7 @@ pub(crate) fn unsupported(alloc: Global, word: &str) -> Found
     Err(SchemaFault::Unsupported(Text::from_string(String::new(alloc)), word))
 }
 
-/// What was found in a member, seen from its object.
+/// The finding of a member, with its place seen from the object.
 pub(crate) fn in_member(alloc: Global, name: &str, found: Found) -> Found
     ensures { (faults : List SchemaFault) → FindsFirst faults found → FindsFirst (faults_in_member name.now faults) result }
 {
@@ -66,7 +66,7 @@ pub(crate) fn in_member(alloc: Global, name: &str, found: Found) -> Found
     }
 }
 
-/// What was found in an element, seen from its list.
+/// The finding of an element, with its place seen from the list.
 pub(crate) fn in_element(alloc: Global, index: usize, found: Found) -> Found
     ensures { (faults : List SchemaFault) → FindsFirst faults found → FindsFirst (faults_in_element index faults) result }
 {

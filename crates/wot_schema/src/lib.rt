@@ -1,9 +1,8 @@
 //! Data schemas (TD 1.1, section 5.3.2) over JSON trees whose numbers are whole.
 //!
 //! `check` gives the first fault of a schema's tree, `Schema::read` compiles a tree that has none, and
-//! `Schema::accepts` says whether a schema accepts a value. Which values it accepts is `Accepts` of
-//! `specs/Acceptance.antt`, what may be wrong with it `schema_faults` of `specs/Faults.antt`; both speak of its tree
-//! alone.
+//! `Schema::accepts` says whether a schema accepts a value. `Accepts` of `specs/Acceptance.antt` says which values it
+//! accepts, `schema_faults` of `specs/Faults.antt` which faults it has; both speak of its tree alone.
 //!
 //! ```text
 //! let level = Schema::read(alloc, &read(alloc, br#"{"type":"integer","minimum":0}"#)?)?;

@@ -14,7 +14,7 @@ pub(crate) struct Node {
     pub(crate) properties: Vec<(Text, Node)>,
 }
 
-/// What the elements of a list are held against.
+/// The schemas against which the elements of a list are held.
 #[derive(Debug, Drop)]
 #[cycle(node)]
 pub(crate) enum ItemRule {

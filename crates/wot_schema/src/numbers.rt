@@ -1,4 +1,4 @@
-//! What a schema asks of integers.
+//! The demands of a schema on integers.
 
 ghost use Rattle.std.specs.Prelude.{◌≡◌, ◌↔◌, ◌<◌, ◌*ℤ◌, ℤ, pos, IsTrue, IfSome};
 ghost use Rattle.std.specs.Option.{ForSome, option_map};

@@ -1,4 +1,4 @@
-//! What a schema asks of a value by itself, without the schemas below it.
+//! The demands of a schema on a value by itself, without the schemas below it.
 
 ghost use Rattle.std.specs.Prelude.{◌≡◌, ◌↔◌, [], map, codes, IsTrue, IfSome, IfOk};
 ghost use Rattle.std.specs.Option.{option_map};
@@ -53,9 +53,15 @@ impl Rules {
     pub(crate) fn accept(&self, value: &Tree) -> bool
         ensures { IsTrue result ↔ IsAllowed self.now (json_of value.now) }
     {
-        has_kind(self.kind, value)
-            && is_constant(&self.constant, value)
-            && is_choice(&self.choices, value)
+        self.kind.is_none_or(|kind| kind == kind_of(value))
+            && self
+                .constant
+                .as_ref()
+                .is_none_or(|constant| is_equal(value, constant))
+            && self
+                .choices
+                .as_ref()
+                .is_none_or(|choices| is_among(value, choices))
             && self.accept_contents(value)
     }
 
@@ -77,33 +83,6 @@ fn character_count(text: &str) -> usize
     ensures { result ≡ code_points text.now }
 {
     text.chars().count()
-}
-
-fn has_kind(kind: Option<Kind>, value: &Tree) -> bool
-    ensures { IsTrue result ↔ IfSome kind (λ k. kind_name k ≡ type_of (json_of value.now)) }
-{
-    match kind {
-        None => true,
-        Some(kind) => kind == kind_of(value),
-    }
-}
-
-fn is_constant(constant: &Option<Tree>, value: &Tree) -> bool
-    ensures { IsTrue result ↔ IfSome constant.now (λ t. json_of value.now ≡ json_of t) }
-{
-    match constant {
-        None => true,
-        Some(constant) => is_equal(value, constant),
-    }
-}
-
-fn is_choice(choices: &Option<Vec<Tree>>, value: &Tree) -> bool
-    ensures { IsTrue result ↔ IfSome choices.now (λ ts. IsAmong (json_of value.now) ts.items) }
-{
-    match choices {
-        None => true,
-        Some(choices) => is_among(value, choices),
-    }
 }
 
 fn is_among(value: &Tree, choices: &[Tree]) -> bool

@@ -12,7 +12,7 @@ use crate::kind::kind_named;
 use std::alloc::Global;
 use wot_json::{Items, Members, Tree};
 
-/// What a member of a schema must be.
+/// The form that a member of a schema must have.
 #[derive(Clone, Copy, Debug)]
 pub(crate) enum Shape {
     /// No schema may have the member.

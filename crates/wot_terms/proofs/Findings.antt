@@ -1,4 +1,4 @@
--- What is found in parts one after the other, in the elements of a list and in the members of an object.
+-- The findings of parts one after the other, of the elements of a list and of the members of an object.
 use Rattle.std.proofs.Common.{refl, ◌≡◌, ◌<◌, ◌+◌, ◌++◌, ℕ, List, [], ◌∷◌, length, get_or, drop, map, Some, None, Err, Result, ◌≢◌, Bool, if◌then◌else◌, sym, ap, subst, ◌∙◌, arith}
 use Rattle.std.specs.Option.{option_map_or}
 use Rattle.wot_json.specs.Tree.{Json, array, object, Members, elements_of, members_of}
@@ -33,7 +33,7 @@ member_stops J places ts i t name e within is named left first =
     subst (λ ps. IsFinding ps (Err e)) (sym (left ∙ ap (λ us. each_member J (members_of (json_members us))) (rest_at ts i t within is)))
     (stops (in_member t.0 (J (json_of t.1))) (each_member J (members_of (json_members (drop (i + 1) ts)))) e (subst (λ n. IsFinding (in_member n (J (json_of t.1))) (Err e)) named first))
 
--- what is found by a test is what is found by the same test
+-- the finding by a test is the finding by the same test
 pub tested : (test passes : Bool) (r : Result (Unit {0}) RowFault) → passes ≡ test → IsFinding (if passes then [] else here) r → IsFinding (if test then [] else here) r
 tested test passes r same finding = subst (λ b. IsFinding (if b then [] else here) r) same finding
 
@@ -46,17 +46,17 @@ pub some_places : (f : List ℕ → List ℕ) (places : Places) → places ≢ [
 some_places f [] some = some
 some_places f (p ∷ places) some = λ none. cc
 
--- what is found in a member that is there
+-- the finding of a member that is there
 pub there : (name : List ℕ) (J : Judge) (absent : Places) (ms : List (List ℕ × Json)) (v : Json) (r : Result (Unit {0}) RowFault) → Some v ≡ member_named name ms →
     IsFinding (in_member name (J v)) r → IsFinding (in_member name (option_map_or J (value_under name (members_of ms)) absent)) r
 there name J absent ms v r is finding = subst (λ o. IsFinding (in_member name (option_map_or J o absent)) r) (is ∙ sym (found-members_of name ms)) finding
 
--- what is found where a member is missing
+-- the finding where a member is missing
 pub nowhere : (name : List ℕ) (J : Judge) (absent : Places) (ms : List (List ℕ × Json)) (r : Result (Unit {0}) RowFault) → None ≡ member_named name ms →
     IsFinding (in_member name absent) r → IsFinding (in_member name (option_map_or J (value_under name (members_of ms)) absent)) r
 nowhere name J absent ms r is finding = subst (λ o. IsFinding (in_member name (option_map_or J o absent)) r) (is ∙ sym (found-members_of name ms)) finding
 
--- what is found in a list and in an object that are not empty
+-- the findings of a list and of an object that are not empty
 pub some_list : (J : Judge) (vs : List Json) (r : Result (Unit {0}) RowFault) → 0 < length vs → IsFinding (each_element J 0 (elements_of vs)) r → IsFinding (list_of_some J (array (elements_of vs))) r
 some_list J [] r some finding = absurd (omega arith)
 some_list J (v ∷ vs) r some finding = finding

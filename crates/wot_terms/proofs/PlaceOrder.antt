@@ -124,7 +124,7 @@ BeginsIn (n ∷ ns) p = BeginsAt (to_member n) p ⊎ BeginsIn ns p
 abbrev pub BeginsFrom : ℕ → Path → Type 0
 BeginsFrom i p = (k : ℕ) × (i ≤ k) × BeginsAt (to_element k) p
 
--- what a step further out is at the end of a longer path
+-- the places of a part are places of the value around it, at the end of a longer path
 pub record Lifts (L : Json → Path → Places → Type 0) : Type 0 where
   pub step : (s : Step) (v w : Json) (p : Path) (inside : Places) → part_through s v ≡ Some w → L w p inside → L v (s ∷ p) inside
 
@@ -144,7 +144,7 @@ map_same : (places : Places) → map (λ q. [] ++ q) places ≡ places
 map_same [] = refl
 map_same (p ∷ places) = ap (λ ps. p ∷ ps) (map_same places)
 
--- what is at the value itself
+-- places at the value itself
 pub one : (L : Json → Path → Places → Type 0) (v : Json) (inside : Places) → L v [] inside → AreGrouped L (λ p. p ≡ []) v inside
 one L v inside leaf = record {
   groups = ([], inside) ∷ [];
@@ -154,7 +154,7 @@ one L v inside leaf = record {
   begin = (refl, tt);
 }
 
--- what is in a part of the value
+-- places in a part of the value
 pub inward : (L : Json → Path → Places → Type 0) → Lifts L → (F : Path → Type 0) (s : Step) (v w : Json) (places : Places) → part_through s v ≡ Some w →
     AreGrouped L F w places → AreGrouped L (BeginsAt s) v (map (λ q. step_pointer s ++ q) places)
 inward L lifts F s v w places is g = record {
@@ -211,7 +211,7 @@ IsGood L J = (w : Json) → IsWellFormed w → AreGrouped L Any w (J w)
 abbrev pub IsGoodOfMembers : (Json → Path → Places → Type 0) → (Path → Type 0) → MembersJudge → Type 0
 IsGoodOfMembers L F M = (ms : Members) → IsWellFormed (object ms) → AreGrouped L F (object ms) (M ms)
 
--- that the value itself is wrong, and that a member is missing, may be said of any value
+-- of any value it may be said that it is wrong itself, and that a member is missing
 pub record Says (L : Json → Path → Places → Type 0) : Type 0 where
   pub lifts : Lifts L
   pub wrong : (v : Json) → L v [] here

@@ -1,4 +1,4 @@
--- What follows of the parts of a valid description.
+-- Conclusions on the parts of a valid description.
 use Rattle.std.proofs.Common.{◌≡◌, ◌<◌, ◌+◌, ◌++◌, ℕ, List, [], ◌∷◌, length, get_or, drop, map, codes, true, false, Option, Some, None, IfSome, refl, subst, if◌then◌else◌}
 use Rattle.std.specs.Prelude.{◌==◌}
 use Rattle.std.specs.List.{flat_map}

@@ -1,4 +1,4 @@
--- How the logic keeps affordances, as the kit asks in their `impl Model`. No contract names this.
+-- The codes of affordances, which the kit asks for in their `impl Model`. No contract names this.
 use Rattle.std.specs.Prelude.{◌≡◌, ℕ, ◌==◌, List, Bool, Option, refl, if◌then◌else◌}
 use Rattle.std.specs.Coded.{Coded, code_by, coded×, coded_ℕ, coded_bool, coded_list, coded_option}
 use Rattle.wot_json.specs.JsonCodes.{json_code}

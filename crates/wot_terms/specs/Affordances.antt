@@ -21,13 +21,13 @@ is_true o = false
 abbrev pub flag_of : List ℕ → Json → Bool
 flag_of name v = is_true (part name v)
 
--- what is handed in: a property its own value (section 5.3.1.3), an action its input (section 5.3.1.4)
+-- the value that is handed in: a property its own value (section 5.3.1.3), an action its input (section 5.3.1.4)
 abbrev pub input_of : Kind → Json → Option Json
 input_of kind.Property v = Some v
 input_of kind.Action v = part (codes "input") v
 input_of kind.Event v = None
 
--- what comes back: of a property its own value, of an action its output, of an event its data (section 5.3.1.5)
+-- the value that comes back: of a property its own, of an action its output, of an event its data (section 5.3.1.5)
 abbrev pub output_of : Kind → Json → Option Json
 output_of kind.Property v = Some v
 output_of kind.Action v = part (codes "output") v

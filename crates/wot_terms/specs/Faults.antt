@@ -1,6 +1,6 @@
--- What may be wrong with a Thing Description (TD 1.1 section 5.3): a table of 18 conditions, and the list of all
--- faults. A condition on a part names the part (`/securityDefinitions/n/scheme`, `/security/1`); one on a list or an
--- object as a whole, as that it isn't empty, names it as a whole.
+-- The faults of a Thing Description (TD 1.1 section 5.3): a table of 18 conditions, and the list of all faults. A
+-- condition on a part names the part (`/securityDefinitions/n/scheme`, `/security/1`); one on a list or an object as a
+-- whole, as that it isn't empty, names it as a whole.
 use Rattle.std.specs.Prelude.{◌≡◌, ◌≢◌, ℕ, ◌+◌, List, [], ◌∷◌, ◌++◌, Bool, true, false, Option, Some, None, is_some, slice_get, codes, map, if◌then◌else◌}
 use Rattle.std.specs.List.{flat_map}
 use Rattle.std.specs.Option.{option_map_or}
@@ -24,7 +24,7 @@ use Rattle.wot_terms.specs.Operations.{is_operation}
 abbrev pub Places : Type 0
 Places = List (List ℕ)
 
--- what is asked of a value, and what is asked of the members of an object
+-- a demand on a value, and one on the members of an object
 abbrev pub Judge : Type 0
 Judge = Json → Places
 
@@ -83,8 +83,8 @@ abbrev pub list_of_some : Judge → Judge
 list_of_some judge (array (element v es)) = each_element judge 0 (element v es)
 list_of_some judge v = here
 
--- What is asked of the members and of the elements where an earlier row has asked for an object or a list: another
--- value is passed over.
+-- The demands on the members and on the elements where an earlier row has asked for an object or a list. Another value
+-- is passed over.
 abbrev pub if_object : MembersJudge → Judge
 if_object asked (object ms) = asked ms
 if_object asked v = []
@@ -130,15 +130,15 @@ holder kind.Property = codes "properties"
 holder kind.Action = codes "actions"
 holder kind.Event = codes "events"
 
--- what is asked of each affordance of a kind, and of those of every kind, in preorder of the description
+-- the demands on each affordance of a kind, and on those of every kind, in preorder of the description
 abbrev pub affordances_of : (Kind → MembersJudge) → Kind → MembersJudge
 affordances_of asked k ms = optional_member (holder k) (λ v. if_object (λ named. each_member (λ w. if_object (asked k) w) named) v) ms
 
 abbrev pub each_affordance : (Kind → MembersJudge) → MembersJudge
 each_affordance asked ms = affordances_of asked kind.Action ms ++ (affordances_of asked kind.Event ms ++ affordances_of asked kind.Property ms)
 
--- What is asked of each form of an affordance of a kind, or of the root, and of all forms, in preorder of
--- the description.
+-- The demands on each form of an affordance of a kind, or of the root, and on all forms, in preorder of the
+-- description.
 abbrev pub forms_of : (Option Kind → MembersJudge) → Option Kind → MembersJudge
 forms_of asked place ms = optional_member (codes "forms") (λ v. if_list (λ w. if_object (asked place) w) v) ms
 

@@ -114,6 +114,6 @@ pub record SchemasComeInPreorder (v : Json) (places : Places) : Type 0 where
   pub are_there : Each (λ p. IsSome (value_along p v)) paths
   pub lead : Each (IsPointerIn v) places
 
--- what holds of a row of the table of a description: the sixteenth is the one on schemas
+-- the faults of a row of the table of a description are in preorder: the sixteenth row is the one on schemas
 abbrev pub IsInPreorder : Json → ℕ × Places → Type 0
 IsInPreorder v row = (row.0 ≡ 16 → SchemasComeInPreorder v row.1) × ((row.0 ≡ 16 → ⊥) → ComeInPreorder v row.1)

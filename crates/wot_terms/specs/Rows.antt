@@ -1,4 +1,4 @@
--- How the code names what a row asks for, and what it reports.
+-- The code's names of the demands of a row, and of its findings.
 use Rattle.std.specs.Prelude.{◌≡◌, ◌≢◌, ℕ, ◌==◌, List, [], ◌∷◌, Option, Some, Result, Ok, Err, slice_get, codes, if◌then◌else◌}
 use Rattle.std.specs.Str.{bytes_eq}
 use Rattle.wot_terms.specs.declared.kind.Kind.{Kind}
@@ -16,8 +16,8 @@ use Rattle.wot_terms.specs.declared.affordances.AffordanceRow.{AffordanceRow}
 use Rattle.wot_terms.specs.declared.affordances.AffordanceRow.TheVariants as affordance_row
 use Rattle.wot_terms.specs.Faults.{Places, Judge, MembersJudge, is, is_text_with, is_text_not_empty, anything, text, truth_value, any_object, schema, object_with, if_object, required_member, link, forms_of, form_href, form_operations, form_texts, affordance_forms, affordance_flags, affordance_schemas, table}
 
--- What was found in a part with these wrong places: nothing, where it has none; or the first; or out
--- of memory, and it has one.
+-- The finding of a part with these wrong places: nothing, where it has none; or the first; or out of memory, and it
+-- has one.
 abbrev pub IsFinding : Places → Result (Unit {0}) RowFault → Type 0
 IsFinding places (Ok u) = places ≡ []
 IsFinding places (Err row_fault.NoMemory) = places ≢ []
@@ -36,7 +36,7 @@ form_judge form_row.Href place ms = form_href place ms
 form_judge form_row.Operations place ms = form_operations place ms
 form_judge form_row.Texts place ms = form_texts place ms
 
--- what is asked of an element of a list or a member of an object
+-- the demand on an element of a list or a member of an object
 abbrev pub entry_judge : Entry → Judge
 entry_judge entry.Object v = any_object v
 entry_judge entry.Text v = text v

@@ -10,7 +10,7 @@ use Rattle.wot_terms.specs.Affordances.{input_of, output_of}
 abbrev pub IsSchema : Json → Type 0
 IsSchema v = schema_faults v ≡ []
 
--- what an affordance of this kind has as input and output are schemas without a fault
+-- the input and the output of an affordance of this kind are schemas without a fault
 abbrev pub HasSchemas : Kind → Json → Type 0
 HasSchemas k v = IfSome (input_of k v) IsSchema × IfSome (output_of k v) IsSchema
 

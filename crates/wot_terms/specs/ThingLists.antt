@@ -1,4 +1,4 @@
--- What contracts see of Things.
+-- Things, as contracts see them.
 use Rattle.std.specs.Prelude.{ℕ, List, map}
 use Rattle.wot_json.specs.Tree.{Json}
 use Rattle.wot_json.specs.Meaning.{json_of}

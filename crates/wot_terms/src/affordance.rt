@@ -9,9 +9,9 @@ use wot_schema::Schema;
 pub struct Affordance {
     pub kind: Kind,
     pub name: Text,
-    /// What is handed in: a property's own schema, an action's `input`.
+    /// The schema of the value that is handed in: a property's own schema, an action's `input`.
     pub input: Option<Schema>,
-    /// What comes back: a property's own schema, an action's `output`, an event's `data`.
+    /// The schema of the value that comes back: a property's own schema, an action's `output`, an event's `data`.
     pub output: Option<Schema>,
     pub read_only: bool,
     pub write_only: bool,

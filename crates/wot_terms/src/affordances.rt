@@ -26,8 +26,8 @@ pub(crate) enum AffordanceRow {
 /// The truth values of an affordance, in byte order of their names.
 const FLAGS: [&str; 5] = ["idempotent", "observable", "readOnly", "safe", "writeOnly"];
 
-/// What a row finds in the affordances of every kind. One walk serves all rows of this sort; `row` says what is asked
-/// of each affordance.
+/// The finding of a row in the affordances of every kind. One walk serves all rows of this sort; `row` says what is
+/// asked of each affordance.
 #[tactic(auto, using(crate::proofs::Findings::stops))]
 pub(crate) fn each_affordance(alloc: Global, root: &Members, row: AffordanceRow) -> Finding
     ensures { IsFinding (each_affordance_row (affordance_judge row) (members_of root.now)) result }
@@ -37,7 +37,7 @@ pub(crate) fn each_affordance(alloc: Global, root: &Members, row: AffordanceRow)
     affordances_of(alloc, root, Kind::Property, row)
 }
 
-/// What a row finds in all forms.
+/// The finding of a row in all forms.
 #[tactic(auto, using(crate::proofs::Findings::stops))]
 pub(crate) fn each_form(alloc: Global, root: &Members, row: FormRow) -> Finding
     ensures { IsFinding (each_form_row (form_judge row) (members_of root.now)) result }
@@ -48,7 +48,7 @@ pub(crate) fn each_form(alloc: Global, root: &Members, row: FormRow) -> Finding
     affordances_of(alloc, root, Kind::Property, AffordanceRow::EachForm(row))
 }
 
-/// What a row finds in the affordances of one kind.
+/// The finding of a row in the affordances of one kind.
 #[tactic(auto, using(crate::proofs::Findings::named_among))]
 fn affordances_of(alloc: Global, root: &Members, kind: Kind, row: AffordanceRow) -> Finding
     ensures { IsFinding (affordances_row (affordance_judge row) kind (members_of root.now)) result }
@@ -121,7 +121,7 @@ fn forms(alloc: Global, affordance: &Members) -> Finding
     }
 }
 
-/// What a row finds in the forms of an affordance of a kind, or, with none, of the root.
+/// The finding of a row in the forms of an affordance of a kind, or, with none, of the root.
 #[tactic(auto, using(crate::proofs::Findings::named_among))]
 fn forms_of(alloc: Global, holder: &Members, row: FormRow, place: Option<Kind>) -> Finding
     ensures { IsFinding (forms_row (form_judge row) place (members_of holder.now)) result }

@@ -1,4 +1,4 @@
-//! What is asked of one value, and of a member that has such a value.
+//! The demands on one value, and on a member that has such a value.
 
 ghost use Rattle.std.specs.Prelude.{◌≡◌, map};
 ghost use Rattle.wot_json.specs.Tree.{members_of};
@@ -11,7 +11,7 @@ use std::alloc::Global;
 use wot_json::{Members, Tree};
 use wot_schema::SchemaFault;
 
-/// What is asked of a value.
+/// A demand on a value.
 #[derive(Clone, Copy, Debug)]
 pub(crate) enum Demand {
     Anything,

@@ -1,4 +1,4 @@
-//! What is asked of the elements of a list and of the members of an object.
+//! The demands on the elements of a list and on the members of an object.
 
 ghost use Rattle.std.specs.Prelude.{◌≡◌, []};
 ghost use Rattle.wot_json.specs.Tree.{elements_of, members_of};
@@ -13,7 +13,7 @@ use crate::forms::{FormRow, form};
 use std::alloc::Global;
 use wot_json::{Members, Text, Tree};
 
-/// What is asked of each element of a list, or of each member of an object.
+/// A demand on each element of a list, or on each member of an object.
 #[derive(Clone, Copy, Debug)]
 pub(crate) enum Entry {
     Object,
@@ -24,7 +24,7 @@ pub(crate) enum Entry {
     RootForm,
     /// A link (section 5.3.4.1).
     Link,
-    /// What a row asks of a form in an affordance of a kind, or, with none, in the root.
+    /// The demands of a row on a form in an affordance of a kind, or, with none, in the root.
     Form(FormRow, Option<Kind>),
 }
 

@@ -1,4 +1,4 @@
-//! What is wrong with a description, and where.
+//! The faults of a description, and their places.
 
 ghost use Rattle.std.specs.Prelude.{◌≡◌, ◌≢◌, ◌++◌, ◌∷◌, [], if◌then◌else◌};
 ghost use Rattle.wot_terms.specs.Faults.{here, in_member, in_element, Places};
@@ -19,7 +19,7 @@ pub struct TdFault {
     pub pointer: Text,
 }
 
-/// Why a tree is no description that this product takes.
+/// The reason for which a tree is no description that this product takes.
 #[derive(Debug, Drop, Error)]
 pub enum CheckFault {
     /// The first fault.
@@ -30,7 +30,7 @@ pub enum CheckFault {
     NoMemory,
 }
 
-/// Why a part does not meet a row of the table.
+/// The reason for which a part does not meet a row of the table.
 #[derive(Debug, Drop)]
 pub(crate) enum RowFault {
     /// The place, seen from the part.
@@ -49,10 +49,10 @@ impl From<NoMemory> for RowFault {
     }
 }
 
-/// What is found in a part: nothing where it meets the row.
+/// The finding of a part: nothing where it meets the row.
 pub(crate) type Finding = Result<(), RowFault>;
 
-/// That the part itself does not meet the row.
+/// Reports that the part itself does not meet the row.
 pub(crate) fn wrong(alloc: Global) -> Finding
     ensures ok { IsFinding here result }
     ensures takes_no_memory { result ≢ Err RowFault.NoMemory }
@@ -60,7 +60,7 @@ pub(crate) fn wrong(alloc: Global) -> Finding
     Err(RowFault::At(Text::from_string(String::new(alloc))))
 }
 
-/// That the part itself does not meet the row, unless it passes a test.
+/// Reports that the part itself does not meet the row, unless it passes a test.
 pub(crate) fn wrong_unless(alloc: Global, passes: bool) -> Finding
     ensures ok { IsFinding (if passes then [] else here) result }
     ensures takes_no_memory { result ≢ Err RowFault.NoMemory }
@@ -68,14 +68,14 @@ pub(crate) fn wrong_unless(alloc: Global, passes: bool) -> Finding
     if passes { Ok(()) } else { wrong(alloc) }
 }
 
-/// That the member of this name is missing.
+/// Reports that the member of this name is missing.
 pub(crate) fn missing(alloc: Global, name: &str) -> Finding
     ensures { IsFinding (in_member name.now here) result }
 {
     in_member(alloc, name, wrong(alloc))
 }
 
-/// What was found in a member, seen from its object.
+/// The finding of a member, with its place seen from the object.
 #[tactic(auto, using(crate::proofs::Findings::some_places))]
 pub(crate) fn in_member(alloc: Global, name: &str, finding: Finding) -> Finding
     ensures { (places : Places) → IsFinding places finding → IsFinding (in_member name.now places) result }
@@ -90,7 +90,7 @@ pub(crate) fn in_member(alloc: Global, name: &str, finding: Finding) -> Finding
     }
 }
 
-/// What was found in an element, seen from its list.
+/// The finding of an element, with its place seen from the list.
 #[tactic(auto, using(crate::proofs::Findings::some_places))]
 pub(crate) fn in_element(alloc: Global, index: usize, finding: Finding) -> Finding
     ensures { (places : Places) → IsFinding places finding → IsFinding (in_element index places) result }

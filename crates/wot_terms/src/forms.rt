@@ -1,4 +1,4 @@
-//! What the rows ask of forms (TD 1.1, section 5.3.4.2).
+//! The demands of the rows on forms (TD 1.1, section 5.3.4.2).
 
 ghost use Rattle.std.specs.Prelude.{◌≡◌};
 ghost use Rattle.wot_json.specs.Tree.{elements_of, members_of};
@@ -25,7 +25,7 @@ pub(crate) enum FormRow {
 /// The texts of a form, in byte order of their names.
 const TEXTS: [&str; 4] = ["contentType", "cov:method", "htv:methodName", "subprotocol"];
 
-/// What a row finds in the form of an affordance of a kind, or, with none, of the root.
+/// The finding of a row in the form of an affordance of a kind, or, with none, of the root.
 pub(crate) fn form(alloc: Global, members: &Members, row: FormRow, place: Option<Kind>) -> Finding
     ensures { IsFinding (form_judge row place (members_of members.now)) result }
 {

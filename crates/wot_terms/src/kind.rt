@@ -3,7 +3,7 @@
 ghost use Rattle.std.specs.Prelude.{◌≡◌};
 ghost use Rattle.wot_terms.specs.Faults.{holder as holder_of};
 
-/// What an affordance is (TD 1.1, sections 5.3.1.3 to 5.3.1.5).
+/// The kind of an affordance (TD 1.1, sections 5.3.1.3 to 5.3.1.5).
 #[derive(Clone, Copy, Debug, PartialEq, Eq)]
 pub enum Kind {
     Property,

@@ -1,4 +1,4 @@
-//! Operations: what a form is for.
+//! The operations of forms.
 
 ghost use Rattle.std.specs.Prelude.{◌≡◌, IfSome, IfNone};
 ghost use Rattle.wot_terms.specs.Operations.{op_name, operations as operations_of, is_operation as is_operation_of};

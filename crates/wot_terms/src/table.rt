@@ -16,7 +16,7 @@ use crate::rows::{
 use std::alloc::Global;
 use wot_json::{Members, Text, Tree};
 
-/// How many rows the table has.
+/// The number of rows of the table.
 const ROWS: u8 = 18;
 
 /// The description meets all conditions of the table in docs/PROFILE.md, or the first fault: of the rows in their
@@ -61,7 +61,7 @@ fn in_row(number: u8, fault: RowFault) -> CheckFault
     }
 }
 
-/// What the row of this number finds. At its end are the sections of TD 1.1 that it is from.
+/// The finding of the row of this number. At its end are the sections of TD 1.1 that it is from.
 fn row(alloc: Global, number: u8, root: &Members) -> Finding
     ensures { IsFinding (row_places number (members_of root.now)) result }
 {

@@ -1,4 +1,4 @@
--- The reply to what has a short place fits.
+-- The reply to an outcome with a short place fits.
 use Rattle.coap_bind.proofs.LengthLaws.{replies_fit}
 use Rattle.bindings_tables.proofs.transfers.replied.Goals as goal
 

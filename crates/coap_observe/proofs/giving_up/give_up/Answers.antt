@@ -1,4 +1,4 @@
--- Each turn takes away the watchers of one endpoint.
+-- Each turn takes away the observers of one endpoint.
 use Rattle.std.proofs.Common.{◌≡◌, List, not, Some, length, sym, ap, subst, ◌∙◌, refl, arith}
 use Rattle.coap_observe.specs.declared.watcher.Watcher.{Watcher}
 use Rattle.coap_observe.specs.Places.{watchers_in}

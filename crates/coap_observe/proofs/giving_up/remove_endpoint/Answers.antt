@@ -1,4 +1,4 @@
--- Each turn takes one of the endpoint's watchers away, until none is left.
+-- Each turn takes one of the endpoint's observers away, until none is left.
 use Rattle.std.proofs.Common.{◌<◌, ◌∙◌, length, sym, ap, subst, refl}
 use Rattle.coap_observe.specs.Places.{Places, watchers_in}
 use Rattle.coap_observe.specs.Watching.{is_from, without}

@@ -1,4 +1,4 @@
--- What is left without the endpoint's watchers is what is left of all without them.
+-- The observers that are left, without the endpoint's, are all observers without the endpoint's.
 use Rattle.std.proofs.Common.{◌≡◌, length}
 use Rattle.coap_observe.specs.Places.{watchers_in}
 use Rattle.coap_observe.specs.Watching.{is_from, without}

@@ -1,4 +1,4 @@
--- Each turn marks the watcher of one slot. To mark one twice is to mark it once.
+-- Each turn marks the observer of one slot. To mark one twice is to mark it once.
 use Rattle.std.proofs.Common.{◌≡◌, ◌<◌, ◌∷◌, ◌∙◌, cond, IfSome, length, sym, ap, subst, refl, arith}
 use Rattle.std.proofs.lemmas.List.{length-set}
 use Rattle.slot_lists.specs.Lists.{list_at, from_slot, is_among, IsIn}

@@ -1,4 +1,4 @@
--- What the rest of the walk makes of what is there now is what the whole walk makes of what was there.
+-- The rest of the walk changes the list of now into the one into which the whole walk changes the old list.
 use Rattle.std.proofs.Common.{◌≡◌, ℕ, IfSome, cond, length}
 use Rattle.slot_lists.specs.Lists.{list_at, from_slot, is_among, IsIn}
 use Rattle.coap_observe.specs.Kept.{watcher_at}

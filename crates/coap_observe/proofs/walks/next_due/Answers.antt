@@ -1,4 +1,4 @@
--- The moment becomes no later than the one before which the slot's watcher isn't due.
+-- The moment becomes no later than the one before which the slot's observer isn't due.
 use Rattle.std.proofs.Common.{◌≡◌, ◌<◌, ◌∷◌, ◌∙◌, false, IfSome, length, sym, ap, subst, refl, arith}
 use Rattle.std.specs.List.{list_any}
 use Rattle.slot_lists.specs.Lists.{list_at, from_slot, IsIn}

@@ -1,4 +1,4 @@
--- what was found and what the options that are left would give is what all of them give
+-- the values so far and those of the options that are left are the values of all options
 use Rattle.std.proofs.Common.{◌≡◌, ◌++◌, ◌||◌}
 use Rattle.std.specs.List.{list_any}
 use Rattle.std.specs.Option.{option_or}

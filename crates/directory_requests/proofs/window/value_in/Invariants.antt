@@ -1,4 +1,4 @@
--- what is left has what is sought, where the query has it
+-- the items that are left have the value that is looked for, where the query has it
 use Rattle.std.proofs.Common.{◌≡◌}
 use Rattle.directory_requests.specs.Window.{items_of, value_in}
 use Rattle.directory_requests.specs.Items.{items_in, bytes_in}

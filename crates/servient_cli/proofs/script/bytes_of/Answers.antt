@@ -9,7 +9,7 @@ use Rattle.servient_cli.proofs.HexTexts.{decoded_bounds, hex_text-decoded, hex_t
 use Rattle.servient_cli.proofs.script.bytes_of.Goals as goal
 use Rattle.servient_cli.proofs.script.bytes_of.Goals.{then-is_empty-via-then-is_empty, then-is_empty-via-else-is_empty+then-text-most, then-is_empty-via-else-is_empty+else-text-most+then-has_upper_case}
 
--- what `text == "-"` says
+-- the meaning of `text == "-"`
 dash : (text : List ℕ) (r : Bool) → r ≡ bytes_eq text (codes "-") → Decides r (text ≡ codes "-")
 dash text r is = slice_eq-Decides Decides-eqb text (codes "-") r is
 

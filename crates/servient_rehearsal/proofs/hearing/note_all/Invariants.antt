@@ -1,4 +1,4 @@
--- what was noted, with the datagrams that are left, is all
+-- the notes so far, with the datagrams that are left, are all
 use Rattle.std.proofs.Common.{◌≡◌, drop}
 use Rattle.servient_rehearsal.specs.Noted.{noted_of, with_datagrams}
 use Rattle.servient_rehearsal.specs.Playing.{datagrams_among}

@@ -4,7 +4,7 @@ use Rattle.thing_ops.proofs.SegmentLists.{piece_at, end_within, place_before}
 use Rattle.thing_ops.proofs.pieces.piece.Goals as goal
 use Rattle.thing_ops.proofs.pieces.piece.Goals.{Joined-index-eq0, then-index-eq0, else-index-eq0}
 
--- where the piece begins
+-- the place at which the piece begins
 start_is : (c : Joined-index-eq0) → c.if-index-eq0.start ≡ get_or (0 ∷ c.args.ends.now) c.args.index 0
 start_is c = elim c.if-index-eq0.branch [
   | then-index-eq0 w ↦ w.start-is ∙ ap (λ (n : ℕ). get_or (0 ∷ c.args.ends.now) n 0) (sym w.if-index-eq0.true)

@@ -5,7 +5,7 @@ use Rattle.tm_derive.specs.Dropping.{dropped_members}
 use Rattle.tm_derive.specs.Selected.{is_out}
 use Rattle.tm_derive.proofs.dropping.dropped_members.Given as goal
 
--- what was made, and what the members that are left will give
+-- the members that were made, and those that the members left will give
 abbrev pub invariant-loop-name : goal.invariant-loop-name
 invariant-loop-name l = record {
   made : l.dropped ++ dropped_members (is_out l.selection) l.holder (json_members (drop l.name-index l.list)) ≡ dropped_members (is_out l.selection) l.holder (json_members l.list);

@@ -8,7 +8,7 @@ use Rattle.tm_parts.proofs.Prefixes.{none_without_braces, cut_after_name, none_w
 use Rattle.tm_parts.proofs.placeholder.placeholder.Goals as goal
 use Rattle.tm_parts.proofs.placeholder.placeholder.Goals.{then-is_empty-via-then-is_empty, then-is_empty-via-else-is_empty+then-name-gt-LONGEST_NAME}
 
--- what the code handed on, in terms of what comes after the braces
+-- the bytes that the code handed on, in terms of those after the braces
 count_is : (bytes inner : List ℕ) (n : ℕ) → bytes ≡ inner → n ≡ prefix_len is_name_byte bytes → n ≡ prefix_len is_name_byte inner
 count_is bytes inner n same is = is ∙ ap (λ (xs : List ℕ). prefix_len is_name_byte xs) same
 

@@ -4,6 +4,6 @@ use Rattle.tm_parts.specs.Prepared.{prepared_sources}
 use Rattle.tm_parts.specs.Sources.{sources_of}
 use Rattle.tm_parts.proofs.sources.prepare_all.Given as goal
 
--- what was made, and what the rest will give
+-- the sources that were made, and those that the rest will give
 abbrev pub invariant-loop-url : goal.invariant-loop-url
 invariant-loop-url l = prepared_sources l.models.items l.values ++ sources_of (kept_models l.url-iterator) l.values ≡ sources_of l.library l.values

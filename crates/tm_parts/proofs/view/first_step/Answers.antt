@@ -7,7 +7,7 @@ use Rattle.tm_parts.proofs.Prefixes.{cut_before}
 use Rattle.tm_parts.proofs.Steps.{place_cut}
 use Rattle.tm_parts.proofs.view.first_step.Goals as goal
 
--- how many bytes the step has, in terms of the place
+-- the number of bytes of the step, in terms of the place
 step_length : (bytes place : List ℕ) (n : ℕ) → bytes ≡ place → n ≡ position_or_len (λ b. b == 47) (take (length bytes - 1) (drop 1 bytes)) → 1 + n ≡ 1 + position_or_len (λ b. b == 47) (drop 1 place)
 step_length bytes place n same is =
     ap (λ (k : ℕ). 1 + k) (is ∙ ap (λ (xs : List ℕ). position_or_len (λ b. b == 47) xs) (take_all (length bytes - 1) (drop 1 bytes) (omega (arith, length-drop 1 bytes)))

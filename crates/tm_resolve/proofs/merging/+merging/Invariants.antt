@@ -14,7 +14,7 @@ decreases-merge_members l = 3 * most_member_nesting l.changes + 2
 abbrev pub decreases-push_change : goal.decreases-push_change
 decreases-push_change l = 3 * nesting (json_of l.change) + 1
 
--- what is done, and what the changes that are left make of the members that are left, is the whole
+-- the members that are done, and the outcome of the changes left on the members left, are the whole
 abbrev pub invariant-merge_members-loop-name : goal.invariant-merge_members-loop-name
 invariant-merge_members-loop-name l = record {
   whole : json_members l.done.items ++ merged_members (json_members l.rest.items) (members_of (json_members (into_iter_items l.name-iterator))) ≡ merged_members l.fn.members (members_of l.fn.changes);

@@ -7,7 +7,7 @@ use Rattle.wot_forms.proofs.PatchedForms.{patch_ordered, patched, gathered}
 use Rattle.wot_forms.proofs.generation.forms_patch.Goals as goal
 use Rattle.wot_forms.proofs.generation.forms_patch.Goals.{In_ok-put_holder-3}
 
--- what was put together is the whole patch
+-- the parts put together are the whole patch
 whole : (c : In_ok-put_holder-3) → json_members c.put_holder-3.new.patch.items ≡ forms_patch c.args.at.now.bases.now c.args.at.now.segment.now (members_of c.args.members.now)
 whole c = gathered c.args.at.now.bases.now c.args.at.now.segment.now (members_of c.args.members.now)
     (json_members c.new-patch.result.items) (json_members c.put_holder.new.patch.items) (json_members c.put_holder-2.new.patch.items) (json_members c.put.new.members.items) (json_members c.put_holder-3.new.patch.items)

@@ -3,7 +3,7 @@ use Rattle.std.specs.List.{flat_map}
 use Rattle.wot_json.specs.Json.{json_string, escaped_byte}
 use Rattle.wot_json.proofs.json_text.quoted_length.Given as goal
 
--- what may still be written, and what is still to be
+-- the room that is left, and the bytes that are left
 abbrev pub invariant-loop-byte : goal.invariant-loop-byte
 invariant-loop-byte l = record {
   within : l.left ≤ l.most;

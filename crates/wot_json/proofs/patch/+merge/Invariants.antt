@@ -13,7 +13,7 @@ decreases-merge_members l = 3 * most_member_nesting l.changes.now + 2
 abbrev pub decreases-push_change : goal.decreases-push_change
 decreases-push_change l = 3 * nesting (json_of l.change.now) + 1
 
--- what is done, and what the changes that are left make of the members that are left, is the whole
+-- the members that are done, and the outcome of the changes left on the members left, are the whole
 abbrev pub invariant-merge_members-loop-member : goal.invariant-merge_members-loop-member
 invariant-merge_members-loop-member l = record {
   whole : json_members l.merged.items ++ merged_members (json_members l.rest) (members_of (json_members (drop l.member-index l.member-items))) ≡ merged_members (json_members l.members) (members_of (json_members l.member-items));

@@ -1,4 +1,4 @@
--- The answer has its effect on the watchers, and a body is kept; nothing else changed.
+-- The answer has its effect on the observers, and a body is kept; nothing else changed.
 use Rattle.std.proofs.Common.{◌≤◌, ◌∙◌, ℕ, List, length, refl, ap, sym, subst}
 use Rattle.coap_msg.specs.declared.constants.TheConstants.{LONGEST_MESSAGE}
 use Rattle.coap_msg.specs.Grammar.{spelling}

@@ -1,4 +1,4 @@
--- What the state does is what the client does.
+-- The client does the same as the state.
 use Rattle.std.proofs.Common.{subst}
 use Rattle.coap_client.specs.Exchange.{at_moment, Delivers}
 use Rattle.coap_client.specs.declared.state.State.{State}

@@ -1,4 +1,4 @@
--- What is judged is the table at the new moment: it is a duplicate, or it is admitted, or there is no room.
+-- The table at the new moment judges: it is a duplicate, or it is admitted, or there is no room.
 use Rattle.std.proofs.Common.{◌≡◌, ℕ, refl, subst}
 use Rattle.coap_msg.specs.declared.endpoint.Endpoint.{Endpoint}
 use Rattle.coap_msg.specs.declared.message.RequestType.{RequestType}

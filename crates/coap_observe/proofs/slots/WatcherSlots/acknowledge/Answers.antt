@@ -1,4 +1,4 @@
--- The watcher keeps its target and its endpoint.
+-- The observer keeps its target and its endpoint.
 use Rattle.std.proofs.Common.{refl, arith}
 use Rattle.coap_observe.specs.Watching.{acknowledged}
 use Rattle.coap_observe.proofs.CallUses.{kept_by, seen_by}

@@ -1,4 +1,4 @@
--- The list of all has them in order of registration, and the bucket of an endpoint has what was sent to it.
+-- The list of all has them in order of registration, and the bucket of an endpoint has the notifications to it.
 use Rattle.std.proofs.Common.{subst}
 use Rattle.coap_observe.specs.Places.{Places, FindsFirst, watchers_in}
 use Rattle.coap_observe.specs.Watching.{is_free}

@@ -1,4 +1,4 @@
--- The bucket has all watchers of the target, and no watcher takes another target or endpoint.
+-- The bucket has all observers of the target, and no observer takes another target or endpoint.
 use Rattle.std.proofs.Common.{◌≡◌, ◌∙◌, List, length, ap, subst, sym, arith}
 use Rattle.std.proofs.lemmas.List.{with_items_is}
 use Rattle.coap_observe.specs.declared.watcher.Watcher.{Watcher}

@@ -1,4 +1,4 @@
--- The bucket of the endpoint has all its watchers.
+-- The bucket of the endpoint has all its observers.
 use Rattle.std.proofs.Common.{subst}
 use Rattle.coap_observe.specs.Places.{Places, Finds}
 use Rattle.coap_observe.specs.Watching.{is_pair}

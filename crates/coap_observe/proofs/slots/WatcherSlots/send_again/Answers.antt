@@ -1,4 +1,4 @@
--- The watcher keeps its target and its endpoint.
+-- The observer keeps its target and its endpoint.
 use Rattle.std.proofs.Common.{◌≡◌, ◌∙◌, false, sym, ap, subst, arith}
 use Rattle.coap_observe.specs.declared.watcher.Watcher.{Watcher}
 use Rattle.coap_observe.specs.Places.{sent_once_more, IsSentOnceMore}

@@ -1,4 +1,4 @@
--- The watcher keeps its target and its endpoint.
+-- The observer keeps its target and its endpoint.
 use Rattle.std.proofs.Common.{◌≡◌, ◌∙◌, true, false, sym, ap, subst, refl, arith}
 use Rattle.coap_observe.specs.declared.watcher.Watcher.{Watcher}
 use Rattle.coap_observe.specs.Watching.{notified, next_sequence, IsNotice, is_due}

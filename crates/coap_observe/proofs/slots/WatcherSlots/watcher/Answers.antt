@@ -1,4 +1,4 @@
--- The slot is that of a watcher.
+-- The slot is that of an observer.
 use Rattle.std.proofs.Common.{arith}
 use Rattle.coap_observe.proofs.PlaceLaws.{slot_below}
 use Rattle.coap_observe.proofs.CallUses.{holds_place}

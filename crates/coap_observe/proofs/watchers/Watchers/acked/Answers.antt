@@ -1,4 +1,4 @@
--- What was sent to the slot is acknowledged. Nothing becomes due, and nothing free but of the endpoint.
+-- The notification to the slot is acknowledged. Nothing becomes due, and nothing free but of the endpoint.
 use Rattle.std.proofs.Common.{◌≡◌, ◌∙◌, sym, ap, subst}
 use Rattle.std.specs.List.{list_any}
 use Rattle.coap_observe.specs.Places.{watchers_in}

@@ -1,4 +1,4 @@
--- The watchers of the target are marked.
+-- The observers of the target are marked.
 use Rattle.std.proofs.Common.{◌∙◌, ap}
 use Rattle.coap_observe.specs.Laws.{emits}
 use Rattle.coap_observe.specs.Watching.{with_emission}

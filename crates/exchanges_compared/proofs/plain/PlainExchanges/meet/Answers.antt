@@ -1,4 +1,4 @@
--- What is judged is the table at the new moment.
+-- The table at the new moment judges.
 use Rattle.std.proofs.Common.{subst}
 use Rattle.coap_msg.specs.declared.message.RequestType.{RequestType}
 use Rattle.coap_msg.specs.Requests.{request_type}

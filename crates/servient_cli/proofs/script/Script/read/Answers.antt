@@ -17,7 +17,7 @@ overflow_add-number c =
     let few = few_events c.args.bytes.now c.lines.rest.now c.lines.events c.lines.invariant in
     omega (arith, few, c.len.ensures, c.requires)
 
--- what `is_empty` says of a slice
+-- the meaning of `is_empty` of a slice
 empty : (rest : List ℕ) (r : Bool) → r ≡ (length rest == 0) → r ≡ true → rest ≡ []
 empty rest r is holds = nil_from_length rest (grind (arith, nat_tests))
 

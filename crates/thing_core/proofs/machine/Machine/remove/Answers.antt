@@ -11,7 +11,7 @@ use Rattle.thing_core.proofs.InvocationLists.{removed_at, none_removed}
 use Rattle.thing_core.proofs.IdLaws.{counted_without}
 use Rattle.thing_core.proofs.machine.Machine.remove.Goals as goal
 
--- what is seen of a machine with these invocations in the place of its own
+-- the view of a machine with these invocations in the place of its own
 abbrev seen : Inside → List Invocation → Course
 seen m invocations = record {
   state = record { versions = m.versions.items; invocations = invocations; next_invocation = m.next_invocation; last = m.last.items; turns = m.turns };

@@ -9,7 +9,7 @@ use Rattle.std.proofs.lemmas.List.Quantifiers.{all_pairs_push}
 use Rattle.std.proofs.lemmas.Bool.Decides.{eqb_tells}
 use Rattle.coap_msg.specs.declared.message.RequestType.{RequestType}
 use Rattle.coap_msg.specs.declared.message.RequestType.TheVariants.{Confirmable, NonConfirmable}
-use Rattle.coap_exchange.specs.Buckets.{bucket}
+use Rattle.coap_msg.specs.Buckets.{bucket}
 use Rattle.slot_lists.specs.Lists.{Lists, list_at, with_list, is_among, without}
 use Rattle.slot_lists.proofs.Among.{neither}
 use Rattle.coap_exchange.specs.Admission.{lives, is_same_exchange}

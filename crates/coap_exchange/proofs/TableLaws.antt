@@ -13,7 +13,7 @@ use Rattle.slot_lists.specs.Lists.{is_among, without}
 use Rattle.slot_lists.proofs.Among.{either, is_same, among_first, among_rest}
 use Rattle.coap_exchange.specs.Admission.{Arrival, lifetime, lives, is_duplicate_of}
 use Rattle.coap_exchange.specs.Slots.{arrival_of, is_of, entry_at, exchange_at, times_in, bucket_at}
-use Rattle.coap_exchange.specs.Buckets.{bucket}
+use Rattle.coap_msg.specs.Buckets.{bucket}
 use Rattle.coap_exchange.specs.Kept.{table_of, living_slots, free_slots, arrival_at, IsKept}
 use Rattle.coap_exchange.specs.Table.{Exchange, exchange_in, answered, duplicated_exchange}
 use Rattle.coap_exchange.specs.declared.entry.Entry.{Entry}

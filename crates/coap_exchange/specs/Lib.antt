@@ -1,5 +1,4 @@
 pub mod Admission
-pub mod Buckets
 pub mod Kept
 pub mod Laws
 pub mod Slots

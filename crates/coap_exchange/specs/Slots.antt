@@ -4,7 +4,7 @@ use Rattle.coap_msg.specs.declared.endpoint.Endpoint.{Endpoint}
 use Rattle.coap_msg.specs.declared.message.RequestType.{RequestType}
 use Rattle.coap_msg.specs.declared.message.RequestType.TheVariants.{Confirmable, NonConfirmable}
 use Rattle.coap_exchange.specs.Admission.{Arrival}
-use Rattle.coap_exchange.specs.Buckets.{bucket}
+use Rattle.coap_msg.specs.Buckets.{bucket}
 use Rattle.coap_exchange.specs.Table.{Exchange}
 use Rattle.coap_exchange.specs.declared.entry.Entry.{Entry}
 

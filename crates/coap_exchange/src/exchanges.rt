@@ -3,11 +3,10 @@
 ghost use Rattle.std.specs.Prelude.{◌≡◌, ◌≤◌, ℕ, length, IfOk};
 ghost use Rattle.coap_msg.specs.declared.message.Type4.TheVariants.{Con, Non};
 
-use crate::bucket::bucket_of;
 use crate::entry::{Entry, list_of};
 use crate::slots::{FREE, all_free, no_entries, no_replies, slot_of};
 use crate::{ExchangeSlot, Met, NoMemory};
-use coap_msg::{BoundedBytes, Endpoint, LONGEST_MESSAGE, RequestType, Type4};
+use coap_msg::{BoundedBytes, Endpoint, LONGEST_MESSAGE, RequestType, Type4, bucket_of};
 use slot_lists::SlotLists;
 use std::alloc::Global;
 use std::marker::Model;

@@ -23,7 +23,6 @@
 //! judges each request so (`Meets` of `specs/Table.antt`, and the law `tables_follow_the_history`).
 #![tactic(auto)]
 
-mod bucket;
 mod entry;
 mod exchanges;
 mod laws;

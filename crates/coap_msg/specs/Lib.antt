@@ -15,3 +15,4 @@ pub mod Written
 pub mod Kept
 pub mod Parts
 pub mod Blocks
+pub mod Buckets

@@ -35,6 +35,7 @@
 
 mod block;
 mod bounded;
+mod bucket;
 mod constants;
 mod decoding;
 mod empty;
@@ -50,6 +51,7 @@ mod transmission;
 
 pub use block::{Block, read_block, write_block};
 pub use bounded::BoundedBytes;
+pub use bucket::bucket_of;
 pub use constants::{
     ACCEPT, BAD_OPTION, BAD_REQUEST, BLOCK1, BLOCK2, CLIENT_ERROR, CONTENT, CONTENT_FORMAT,
     CONTINUE, Code, DELETE, DETAILS, EMPTY, ETAG, GET, IF_MATCH, IF_NONE_MATCH,

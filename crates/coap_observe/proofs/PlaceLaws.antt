@@ -12,6 +12,7 @@ use Rattle.coap_msg.specs.declared.endpoint.Endpoint.{Endpoint}
 use Rattle.coap_msg.specs.Endpoints.{is_same_endpoint}
 use Rattle.coap_msg.proofs.SameEndpoints.{both, same_endpoint}
 use Rattle.coap_observe.specs.declared.watcher.Watcher.{Watcher}
+use Rattle.coap_msg.specs.Buckets.{bucket}
 use Rattle.coap_observe.specs.Buckets.{endpoint_bucket, target_bucket}
 use Rattle.coap_observe.specs.Kept.{watcher_at, place_at, endpoint_bucket_at, times_in, used_slots, AreKept, places_in, is_free_at}
 use Rattle.coap_observe.specs.Places.{Place, Places, watchers_in, is_wanted, IsAt, IsUsed, changed_in, changed_place, with_change, with_changes, without_slot, Finds, FindsFirst}
@@ -165,7 +166,7 @@ seen_added n ws o o2 slot v below hasnt e =
 
 -- each bucket is one of n
 pub endpoint_bucket_below : (n : ℕ) (from : Endpoint) → 0 < n → endpoint_bucket n from < n
-unfolding endpoint_bucket
+unfolding bucket
 endpoint_bucket_below n from some = mod_below _ n some
 
 pub target_bucket_below : (n target : ℕ) → 0 < n → target_bucket n target < n

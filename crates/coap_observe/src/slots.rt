@@ -1,12 +1,12 @@
 //! The observers in their slots.
 
-use crate::buckets::{endpoint_bucket, target_bucket};
+use crate::buckets::target_bucket;
 use crate::notice::Notice;
 use crate::walks::{
     FREE, ORDERS, USED, due_slot, free_slot, mark, next_due, pair_slot, wanted_slot,
 };
 use crate::watcher::{Wanted, Watcher};
-use coap_msg::{Endpoint, LONGEST_TOKEN};
+use coap_msg::{Endpoint, LONGEST_TOKEN, bucket_of};
 use servient_base::{NoMemory, Target};
 use slot_lists::SlotLists;
 use std::alloc::Global;
@@ -66,7 +66,7 @@ impl WatcherSlots {
     pub fn pair_slot(&self, from: Endpoint, token: &[u8]) -> Option<u32>
         ensures { Finds (is_pair from token.now) self.now result }
     {
-        let bucket = endpoint_bucket(from, self.capacity);
+        let bucket = bucket_of(from, 0, self.capacity);
         pair_slot(&self.endpoints, bucket, &self.watchers, from, token)
     }
 
@@ -74,7 +74,7 @@ impl WatcherSlots {
     pub fn wanted_slot(&self, from: Endpoint, wanted: Wanted) -> Option<u32>
         ensures { Finds (is_wanted from wanted) self.now result }
     {
-        let bucket = endpoint_bucket(from, self.capacity);
+        let bucket = bucket_of(from, 0, self.capacity);
         wanted_slot(&self.endpoints, bucket, &self.watchers, from, wanted)
     }
 
@@ -127,7 +127,7 @@ impl WatcherSlots {
                 self.targets
                     .push_back(target_bucket(target, self.capacity), slot);
                 self.endpoints
-                    .push_back(endpoint_bucket(from, self.capacity), slot);
+                    .push_back(bucket_of(from, 0, self.capacity), slot);
                 true
             }
             None => false,
@@ -144,7 +144,7 @@ impl WatcherSlots {
         self.targets
             .remove(target_bucket(target, self.capacity), slot);
         self.endpoints
-            .remove(endpoint_bucket(from, self.capacity), slot);
+            .remove(bucket_of(from, 0, self.capacity), slot);
         self.order.remove(USED, slot);
         self.order.push_back(FREE, slot);
     }

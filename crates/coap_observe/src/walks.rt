@@ -7,9 +7,8 @@ ghost use Rattle.coap_observe.specs.Kept.{watcher_at, changed_among, is_busy_at,
 ghost use Rattle.coap_observe.specs.Places.{is_wanted};
 ghost use Rattle.coap_observe.specs.Watching.{where_so, marked, is_of_target, is_pair, is_due};
 
-use crate::buckets::endpoint_bucket;
 use crate::watcher::{Wanted, Watcher};
-use coap_msg::Endpoint;
+use coap_msg::{Endpoint, bucket_of};
 use servient_base::Target;
 use slot_lists::SlotLists;
 
@@ -127,7 +126,7 @@ fn is_busy(endpoints: &SlotLists, watchers: &[Watcher], from: Endpoint, count: u
     requires endpoints { endpoints.now.capacity ≤ length watchers.now }
     ensures { result ≡ is_busy_at endpoints.now watchers.now count from }
 {
-    let bucket = endpoint_bucket(from, count);
+    let bucket = bucket_of(from, 0, count);
     wanted_slot(endpoints, bucket, watchers, from, Wanted::Unacknowledged).is_some()
 }
 

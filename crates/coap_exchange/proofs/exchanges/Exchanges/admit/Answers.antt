@@ -5,7 +5,7 @@ use Rattle.std.proofs.lemmas.List.{length-map, length-set}
 use Rattle.slot_lists.specs.Lists.{Lists, list_at, with_list, is_among}
 use Rattle.coap_exchange.specs.Admission.{Arrival}
 use Rattle.coap_exchange.specs.Slots.{arrival_of, is_of, entry_at, exchange_at, bucket_at}
-use Rattle.coap_exchange.specs.Buckets.{bucket}
+use Rattle.coap_msg.specs.Buckets.{bucket}
 use Rattle.coap_exchange.specs.Kept.{table_of, living_slots, free_slots, IsKept}
 use Rattle.coap_exchange.specs.Table.{Exchange, Table, exchange_in, with_exchange, duplicated_exchange}
 use Rattle.coap_exchange.specs.declared.entry.Entry.{Entry}

@@ -2,7 +2,7 @@
 use Rattle.std.proofs.Common.{◌≡◌, ◌<◌, ◌++◌, ◌∷◌, [], ◌∙◌, ℕ, List, true, false, Some, length, map, sym, ap, subst, arith}
 use Rattle.slot_lists.specs.Lists.{Lists, list_at, with_list, is_among, without}
 use Rattle.coap_exchange.specs.Slots.{exchange_at, age_list, age_list_at, bucket_at}
-use Rattle.coap_exchange.specs.Buckets.{bucket}
+use Rattle.coap_msg.specs.Buckets.{bucket}
 use Rattle.coap_exchange.specs.Kept.{table_of, living_slots, IsKept, without_exchange}
 use Rattle.coap_exchange.specs.Table.{Exchange, Table, exchange_in}
 use Rattle.coap_exchange.specs.declared.entry.Entry.{Entry}

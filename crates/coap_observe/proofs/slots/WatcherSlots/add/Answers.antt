@@ -22,10 +22,10 @@ push_back-requires-clause-apart c =
 pub invariant_of-self : goal.invariant_of-self
 invariant_of-self c =
     kept_adding c.self.inside.capacity c.self.inside.watchers.items c.self.inside.order c.self.inside.targets c.self.inside.endpoints
-    c.push_back.new.self c.push_back-in-Some.new.self c.push_back-in-Some-2.new.self c.in-Some.slot c.target_bucket.result c.endpoint_bucket.result c.new.result
+    c.push_back.new.self c.push_back-in-Some.new.self c.push_back-in-Some-2.new.self c.in-Some.slot c.target_bucket.result c.bucket_of.result c.new.result
     c.self.invariant c.in-Some.ensures.member.0
     (c.target_bucket.ensures.bucket ∙ ap (λ (w : Watcher). target_bucket c.self.inside.capacity w.target) (sym c.new.ensures))
-    (c.endpoint_bucket.ensures.bucket ∙ ap (λ (w : Watcher). endpoint_bucket c.self.inside.capacity w.from) (sym c.new.ensures))
+    (c.bucket_of.ensures.bucket ∙ ap (λ (w : Watcher). endpoint_bucket c.self.inside.capacity w.from) (sym c.new.ensures))
     (c.push_back.ensures ∙ ap (λ (t : Lists). pushed_at 0 c.in-Some.slot t) c.remove.ensures) c.push_back-in-Some.ensures c.push_back-in-Some-2.ensures
 
 pub returns-in-Some : goal.returns-in-Some

@@ -9,5 +9,5 @@ pub returns : goal.returns
 returns c =
     subst (λ (t : Places). Finds (is_pair c.args.from c.args.token.now) t c.pair_slot.result) c.self.view_is
     (searched (is_pair c.args.from c.args.token.now) c.args.from c.self.inside.capacity c.self.inside.watchers.items c.deref.result.now c.self.inside.order c.self.inside.targets c.self.inside.endpoints
-    c.endpoint_bucket-bucket.result c.pair_slot.result c.self.invariant (pair_is_from c.args.from c.args.token.now) c.deref.ensures.value
-    c.endpoint_bucket-bucket.ensures.bucket c.endpoint_bucket-bucket.ensures.within c.pair_slot.ensures)
+    c.bucket_of-bucket.result c.pair_slot.result c.self.invariant (pair_is_from c.args.from c.args.token.now) c.deref.ensures.value
+    c.bucket_of-bucket.ensures.bucket c.bucket_of-bucket.ensures.within c.pair_slot.ensures)

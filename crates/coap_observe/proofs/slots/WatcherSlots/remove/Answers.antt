@@ -27,8 +27,8 @@ remove-requires-clause-slot c =
 pub remove-requires-2-clause-slot : goal.remove-requires-2-clause-slot
 remove-requires-2-clause-slot c =
     let here = holds c.self.inside.capacity c.self.inside.watchers.items c.self.inside.order c.self.inside.targets c.self.inside.endpoints c.args.self.now c.args.slot c.index-2.result.now c.self.invariant c.self.view_is c.requires c.index-2.ensures in
-    there_by_endpoint c.self.inside.capacity c.self.inside.watchers.items c.self.inside.order c.self.inside.targets c.self.inside.endpoints c.args.self.now c.args.slot c.endpoint_bucket.result c.self.invariant c.self.view_is c.requires
-    (c.endpoint_bucket.ensures.bucket ∙ ap (λ (w : Watcher). endpoint_bucket c.self.inside.capacity w.from) here)
+    there_by_endpoint c.self.inside.capacity c.self.inside.watchers.items c.self.inside.order c.self.inside.targets c.self.inside.endpoints c.args.self.now c.args.slot c.bucket_of.result c.self.invariant c.self.view_is c.requires
+    (c.bucket_of.ensures.bucket ∙ ap (λ (w : Watcher). endpoint_bucket c.self.inside.capacity w.from) here)
 
 pub remove-requires-3-clause-slot : goal.remove-requires-3-clause-slot
 remove-requires-3-clause-slot c =
@@ -48,9 +48,9 @@ invariant_of-self c =
     let at_target = holds c.self.inside.capacity c.self.inside.watchers.items c.self.inside.order c.self.inside.targets c.self.inside.endpoints c.args.self.now c.args.slot c.index.result.now c.self.invariant c.self.view_is c.requires c.index.ensures in
     let at_from = holds c.self.inside.capacity c.self.inside.watchers.items c.self.inside.order c.self.inside.targets c.self.inside.endpoints c.args.self.now c.args.slot c.index-2.result.now c.self.invariant c.self.view_is c.requires c.index-2.ensures in
     kept_removing c.self.inside.capacity c.self.inside.watchers.items c.self.inside.order c.self.inside.targets c.self.inside.endpoints
-    c.push_back.new.self c.remove.new.self c.remove-2.new.self c.args.self.now c.args.slot c.target_bucket.result c.endpoint_bucket.result c.self.invariant c.self.view_is c.requires
+    c.push_back.new.self c.remove.new.self c.remove-2.new.self c.args.self.now c.args.slot c.target_bucket.result c.bucket_of.result c.self.invariant c.self.view_is c.requires
     (c.target_bucket.ensures.bucket ∙ ap (λ (w : Watcher). target_bucket c.self.inside.capacity w.target) at_target)
-    (c.endpoint_bucket.ensures.bucket ∙ ap (λ (w : Watcher). endpoint_bucket c.self.inside.capacity w.from) at_from)
+    (c.bucket_of.ensures.bucket ∙ ap (λ (w : Watcher). endpoint_bucket c.self.inside.capacity w.from) at_from)
     (c.push_back.ensures ∙ ap (λ (t : Lists). pushed_at 1 c.args.slot t) c.remove-3.ensures) c.remove.ensures c.remove-2.ensures
 
 pub returns : goal.returns

@@ -8,5 +8,5 @@ pub returns : goal.returns
 returns c =
     subst (λ (t : Places). Finds (is_wanted c.args.from c.args.wanted) t c.wanted_slot.result) c.self.view_is
     (searched (is_wanted c.args.from c.args.wanted) c.args.from c.self.inside.capacity c.self.inside.watchers.items c.deref.result.now c.self.inside.order c.self.inside.targets c.self.inside.endpoints
-    c.endpoint_bucket-bucket.result c.wanted_slot.result c.self.invariant (wanted_is_from c.args.from c.args.wanted) c.deref.ensures.value
-    c.endpoint_bucket-bucket.ensures.bucket c.endpoint_bucket-bucket.ensures.within c.wanted_slot.ensures)
+    c.bucket_of-bucket.result c.wanted_slot.result c.self.invariant (wanted_is_from c.args.from c.args.wanted) c.deref.ensures.value
+    c.bucket_of-bucket.ensures.bucket c.bucket_of-bucket.ensures.within c.wanted_slot.ensures)

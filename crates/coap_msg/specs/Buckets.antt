@@ -1,4 +1,4 @@
--- Inside the crate: the bucket of an endpoint and a message ID. It matters for speed alone.
+-- The bucket of an endpoint and a number. It matters for speed alone.
 use Rattle.std.specs.Prelude.{◌+◌, ◌*◌, ◌/◌, ◌%◌, ◌^◌, ℕ, bit_xor}
 use Rattle.coap_msg.specs.declared.endpoint.Endpoint.{Endpoint}
 

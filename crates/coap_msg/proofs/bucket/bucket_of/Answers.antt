@@ -1,7 +1,7 @@
 -- The steps of the code are those of the definition.
 use Rattle.std.proofs.Common.{◌%◌, ◌+◌, ◌*◌, ◌∙◌, bit_xor, ap}
-use Rattle.coap_exchange.specs.Buckets.{scattered, bucket}
-use Rattle.coap_exchange.proofs.bucket.bucket_of.Goals as goal
+use Rattle.coap_msg.specs.Buckets.{scattered, bucket}
+use Rattle.coap_msg.proofs.bucket.bucket_of.Goals as goal
 
 pub returns-clause-bucket : goal.returns-clause-bucket
 unfolding bucket

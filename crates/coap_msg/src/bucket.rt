@@ -1,13 +1,13 @@
-//! The bucket of an endpoint and a message ID. The contracts of the table rest only on its being one function of both.
-//! It is a fixed function, with no key, because no call hands in a secret: whoever can forge sources can choose them so
-//! that all fall into one bucket, whose list is then as long as the table.
+//! The bucket of an endpoint and a number, as tables of exchanges and of observers keep them. What these say rests only on
+//! its being one function of both. It has no key, because no call hands in a secret: whoever can forge sources can choose
+//! them so that all fall into one bucket, whose list is then as long as the table.
 
 ghost use Rattle.std.specs.Prelude.{◌≡◌, ◌<◌};
-ghost use Rattle.coap_exchange.specs.Buckets.{scattered, bucket};
+ghost use Rattle.coap_msg.specs.Buckets.{scattered, bucket};
 
-use coap_msg::Endpoint;
+use crate::Endpoint;
 
-/// The bucket of an endpoint and a message ID, of `count` buckets.
+/// The bucket of an endpoint and a number, as a message ID, of `count` buckets.
 pub fn bucket_of(from: Endpoint, id: u16, count: u32) -> u32
     requires { 0 < count }
     ensures bucket { result ≡ bucket count from id }

@@ -1,8 +1,0 @@
--- The steps of the code are those of the definition.
-use Rattle.std.proofs.Common.{refl}
-use Rattle.coap_observe.specs.Buckets.{scattered}
-use Rattle.coap_observe.proofs.buckets.scatter.Goals as goal
-
-pub returns : goal.returns
-unfolding scattered
-returns c = refl

@@ -16,6 +16,9 @@ use itoa::Buffer;
 use servient_base::put_bytes;
 use thing_ops::Outcome;
 
+/// Room for the payload that names a bad option, as `option 65535`.
+const OPTION_PAYLOAD: usize = 16;
+
 impl Server {
     ghost use Rattle.std.specs.Prelude.{◌≡◌, ◌≤◌, ◌<◌, ◌^◌, ◌/◌, ◌⊎◌, None, length, IfSome};
     ghost use Rattle.coap_msg.specs.Grammar.{spelling};
@@ -105,7 +108,7 @@ impl Server {
             RequestType::Confirmable => {
                 let mut buffer = Buffer::new();
                 // Bytes and not `format!`, since a refusal takes no memory.
-                let mut word = [0u8; 16];
+                let mut word = [0u8; OPTION_PAYLOAD];
                 let at = put_bytes(&mut word, 0, b"option ");
                 let at = put_bytes(&mut word, at, buffer.format(number).as_bytes());
                 CoapNext::Send(self.refuse(pending, BAD_OPTION, &word[..at], out))

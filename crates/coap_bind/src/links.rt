@@ -16,6 +16,9 @@ use thing_ops::Segments;
 /// The content format of links (RFC 6690, section 7.3).
 const LINK_FORMAT: u16 = 40;
 
+/// The number of segments of `/.well-known/core`.
+const SEGMENTS: usize = 2;
+
 impl Server {
     ghost use Rattle.std.specs.Prelude.{◌≡◌, ◌<◌, ◌≤◌, length, IfSome};
     ghost use Rattle.std.specs.List.{remove};
@@ -155,7 +158,7 @@ ghost use Rattle.coap_bind.specs.Writing.{head_in, coap_reply};
 pub fn is_links_path(path: &Segments) -> bool
     ensures { result ≡ is_links_path path.now }
 {
-    if path.len() != 2 {
+    if path.len() != SEGMENTS {
         return false;
     }
     match path.get(0) {

@@ -7,7 +7,7 @@ ghost use Rattle.coap_bind.specs.Blocks.{IsUse, first_block, given_portion, goes
 ghost use Rattle.coap_bind.specs.Portions.{HoldsBlock, portion_seen};
 
 use crate::blocks::{BlockOption, BlockUse};
-use coap_msg::{Block, LONGEST_PAYLOAD};
+use coap_msg::{Block, DETAILS, LONGEST_PAYLOAD, SUCCESS};
 use thing_ops::{Outcome, coap_code};
 
 /// The exponent of the size of the largest block, 1,024 bytes (RFC 7959, section 2.2).
@@ -91,7 +91,7 @@ fn success_option(outcome: &Outcome, block: Block) -> Option<BlockOption>
     ensures ok { result ≡ success_option outcome.now block }
     ensures block { HoldsBlock result }
 {
-    if coap_code(outcome) / 32 != 2 {
+    if coap_code(outcome) / DETAILS != SUCCESS {
         return None;
     }
     Some(BlockOption::Block1(Block {

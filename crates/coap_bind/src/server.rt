@@ -8,8 +8,8 @@ use crate::writing::kind_and_id;
 use coap_blocks::{Bodies, Parts};
 use coap_exchange::{ExchangeSlot, Exchanges, Met};
 use coap_msg::{
-    Code, EMPTY, Endpoint, LONGEST_MESSAGE, LONGEST_TOKEN, Message, Opts, Plain, RequestType,
-    SERVICE_UNAVAILABLE, Type4, decode, encode, put_empty_reply, put_rejection,
+    Code, DETAILS, EMPTY, Endpoint, LONGEST_MESSAGE, LONGEST_TOKEN, Message, Opts, Plain,
+    RequestType, SERVICE_UNAVAILABLE, Type4, decode, encode, put_empty_reply, put_rejection,
 };
 use coap_observe::Watchers;
 use servient_base::put_bytes;
@@ -151,7 +151,7 @@ fn is_request(kind: Type4, code: Code) -> bool
     ensures { result ≡ (may_ask kind && (nat_lt 0 code && nat_lt code 32)) }
 {
     match kind {
-        Type4::Con | Type4::Non => code > 0 && code < 32,
+        Type4::Con | Type4::Non => code > EMPTY && code < DETAILS,
         Type4::Ack | Type4::Rst => false,
     }
 }

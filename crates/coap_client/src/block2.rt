@@ -1,12 +1,11 @@
 //! The Block2 options of a response (RFC 7959, section 2.1).
 
-ghost use Rattle.std.specs.Prelude.{◌≡◌, ◌≤◌, ◌<◌, ◌^◌, length, IfSome};
-ghost use Rattle.coap_msg.specs.Blocks.{IsBlock, block_of as block_of_value};
-ghost use Rattle.coap_msg.specs.Numbers.{number_of};
+ghost use Rattle.std.specs.Prelude.{◌≡◌, IfSome};
+ghost use Rattle.coap_msg.specs.Blocks.{IsBlock};
 ghost use Rattle.coap_client.specs.Answers.{block2_in as block2_in_values, block2_of as block2_of_options, block2_values};
 ghost use Rattle.coap_client.specs.Finding.{found_values};
 
-use coap_msg::{BLOCK2, Block, LONGEST_BLOCK, Options, read_block};
+use coap_msg::{BLOCK2, Block, Options, read_block};
 
 /// The block of its body that a response has, where its options say one.
 pub fn block2_of(options: &Options<'_>) -> Option<Block>
@@ -43,42 +42,10 @@ fn block_in(value: Option<&[u8]>) -> Option<Option<Block>>
     ensures block { IfSome result (λ block. IfSome block IsBlock) }
 {
     match value {
-        Some(value) => match block_of(value) {
+        Some(value) => match read_block(value) {
             Some(block) => Some(Some(block)),
             None => None,
         },
         None => Some(None),
-    }
-}
-
-/// The block that a value says.
-fn block_of(value: &[u8]) -> Option<Block>
-    ensures ok { result ≡ block_of_value value.now }
-    ensures block { IfSome result IsBlock }
-{
-    if value.len() > LONGEST_BLOCK {
-        return None;
-    }
-    fits_24_bits(value);
-    read_block(value)
-}
-
-/// For the proof: a number of up to three bytes has 24 bits. The bytes get names, since the range of one that is lent
-/// is known once it is read.
-fn fits_24_bits(value: &[u8])
-    requires { length value.now ≤ 3 }
-    ensures { number_of value.now < 2 ^ 24 }
-{
-    match value {
-        [] => {}
-        [low] => {
-            let _low = *low;
-        }
-        [high, low] => {
-            let (_high, _low) = (*high, *low);
-        }
-        [high, middle, low, ..] => {
-            let (_high, _middle, _low) = (*high, *middle, *low);
-        }
     }
 }

@@ -1,7 +1,8 @@
 //! The values of the options Block1 and Block2 (RFC 7959, section 2.2).
 
-ghost use Rattle.std.specs.Prelude.{◌≡◌, ◌≤◌, length};
+ghost use Rattle.std.specs.Prelude.{◌≡◌, ◌≤◌, ◌<◌, ◌^◌, length, IfSome};
 ghost use Rattle.coap_msg.specs.Blocks.{IsBlock, block_bytes, block_in as block_in_number, block_of};
+ghost use Rattle.coap_msg.specs.Numbers.{number_of};
 ghost use Rattle.coap_msg.specs.Written.{IsWritten};
 
 use crate::constants::LONGEST_BLOCK;
@@ -32,7 +33,7 @@ pub struct Block {
 
 impl Block {
     ghost use Rattle.coap_msg.specs.Blocks.{block_size, block_start};
-    ghost use Rattle.std.specs.Prelude.{◌*◌, ◌^◌};
+    ghost use Rattle.std.specs.Prelude.{◌*◌};
 
     /// The size of the block, in bytes: from 16 to 1,024.
     pub fn size(&self) -> usize
@@ -57,12 +58,35 @@ impl Block {
 /// The block that the value of an option says; none where it has more than three bytes, or says the size that is
 /// reserved.
 pub fn read_block(value: &[u8]) -> Option<Block>
-    ensures { result ≡ block_of value.now }
+    ensures ok { result ≡ block_of value.now }
+    // It may be written.
+    ensures block { IfSome result IsBlock }
 {
     if value.len() > LONGEST_BLOCK {
         return None;
     }
+    fits_24_bits(value);
     block_in(number_of(value))
+}
+
+/// For the proof: a number of up to three bytes has 24 bits. The bytes get names, since the range of one that is lent
+/// is known once it is read.
+fn fits_24_bits(value: &[u8])
+    requires { length value.now ≤ 3 }
+    ensures { number_of value.now < 2 ^ 24 }
+{
+    match value {
+        [] => {}
+        [low] => {
+            let _low = *low;
+        }
+        [high, low] => {
+            let (_high, _low) = (*high, *low);
+        }
+        [high, middle, low, ..] => {
+            let (_high, _middle, _low) = (*high, *middle, *low);
+        }
+    }
 }
 
 /// The block that a number says.

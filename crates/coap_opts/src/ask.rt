@@ -9,8 +9,8 @@ use crate::AskFault;
 use crate::conditions::read_conditions;
 use crate::found::{Found, note_all, refusal};
 use crate::known::{ACCEPT, CONTENT_FORMAT, OBSERVE};
-use crate::values::{block_of, numeric};
-use coap_msg::{Block, DELETE, GET, JSON, Message, POST, PUT, TD_JSON};
+use crate::values::numeric;
+use coap_msg::{Block, DELETE, GET, JSON, Message, POST, PUT, TD_JSON, read_block};
 use std::alloc::Global;
 use thing_ops::{Accept, Format, Request, Segments, Verb};
 
@@ -68,11 +68,12 @@ pub fn request_of<'a>(alloc: Global, message: &Message<'a>) -> Result<CoapAsk<'a
         body: message.payload,
         conditions,
     };
+    // Closures, since a function of another crate isn't a value for the prover.
     Ok(CoapAsk {
         request,
         observe,
-        block1: found.block1.and_then(block_of),
-        block2: found.block2.and_then(block_of),
+        block1: found.block1.and_then(|value| read_block(value)),
+        block2: found.block2.and_then(|value| read_block(value)),
     })
 }
 

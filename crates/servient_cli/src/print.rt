@@ -1,5 +1,5 @@
 //! The lines that a replay prints: one for each act and each turn. Each function puts its part into a text that is
-//! lent, so that it owns no text where it leaves by `?`.
+//! lent, so that it doesn't own the print where it leaves by `?`.
 
 ghost use Rattle.std.specs.Prelude.{◌≡◌, ◌++◌, codes, map, OnOk};
 ghost use Rattle.std.specs.List.{flat_map};

@@ -10,6 +10,9 @@ use servient_base::Target;
 use thing_ops::{Allow, Flags, RouteKind, Segments, Verb, allowed, route};
 use wot_terms::Kind;
 
+/// The place of an affordance's name in a path.
+const NAME: usize = 2;
+
 /// The place of a path.
 #[derive(Drop)]
 pub enum Place<'a> {
@@ -68,7 +71,7 @@ fn affordance_in<'a>(things: &'a IndexedThings, path: &Segments, kind: Kind) -> 
     ensures { result ≡ spec.affordance_in kind path.now things.now }
 {
     let thing = things.named(path.get(0)?)?;
-    thing.affordance(kind, path.get(2)?)
+    thing.affordance(kind, path.get(NAME)?)
 }
 
 /// The place at which a property is observed, if it is observable.

@@ -75,8 +75,8 @@ impl Outstanding {
     }
 }
 
-/// The number of moments for a retransmission that have come so long after the first sending. The one with number n comes
-/// after 2^n - 1 timeouts, as each is twice the one before (RFC 7252, section 4.2).
+/// The number of moments for a retransmission that have come so long after the first sending. The one with number n
+/// comes after 2^n - 1 first timeouts, as each timeout is twice the one before (RFC 7252, section 4.2).
 fn retransmissions_within(timeout: u64, age: u64) -> u8
     requires { timeout ≤ 3000 }
     ensures { result ≡ retransmissions_within timeout age }

@@ -30,7 +30,7 @@ pub fn framing_of(head: &HeadParts<'_>) -> Result<Framing, u16>
     ensures bound { IfOk result (IsBounded longest_body) }
 {
     let fields = &head.fields;
-    // Without Host, or with several, it is refused, since a server must do so (RFC 9112, section 3.2).
+    // HTTP/1.1 without Host, or with several, is refused, since a server must do so (RFC 9112, section 3.2).
     if head.newer && !matches!(fields.host, Found::Once(_)) {
         return Err(BAD_REQUEST);
     }

@@ -6,7 +6,7 @@ ghost use Rattle.std.specs.Prelude.{◌≡◌, ◌≤◌};
 
 use crate::datagrams::{LONGEST_BODY, put_sent};
 use crate::ids::next_id;
-use crate::watchers::target_of;
+use crate::observers::target_of;
 use case_notation::number;
 use coap_bind::{CoapBind, CoapNext};
 use coap_msg::{Endpoint, LONGEST_MESSAGE};

@@ -1,5 +1,5 @@
 //! The CoAP server, in which 16 exchanges may live, or as many as a line `room for N exchanges` says, and to which
-//! there may be four observers, or as many as a line `room for N watchers` says. A line `links TEXT` gives it the text
+//! there may be four observers, or as many as a line `room for N observers` says. A line `links TEXT` gives it the text
 //! of its links, as bytes are written. A step is a datagram: its moment, its host, its outcome where it is asked (`-`
 //! where it isn't to be), and its message; and its treatment. The outcome of a request for target 3 is written
 //! `3/Content:7`. Other steps are in `notifications.rt`, `crowds.rt` and `transfers.rt`.
@@ -9,9 +9,9 @@ ghost use Rattle.thing_ops.specs.Outcomes.{HasCode};
 ghost use Rattle.coap_bind.specs.Laws.{HasShortPlace};
 
 use crate::exchanges::{endpoint_of, put_words};
+use crate::observers::target_of;
 use crate::outcomes::outcome_of;
 use crate::targets::put_path;
-use crate::watchers::target_of;
 use crate::{crowds, notifications, runs, transfers};
 use case_notation::{bytes_of, message_of, number, put_message};
 use coap_bind::{CoapBind, CoapNext};
@@ -215,7 +215,7 @@ fn exchanges_of(history: &str) -> u32
 }
 
 /// The number of observers that there may be.
-fn watchers_of(history: &str) -> u32
+fn observers_of(history: &str) -> u32
     ensures least { 1 ≤ result }
     ensures most { result ≤ 1024 }
 {
@@ -233,7 +233,7 @@ fn links_of(alloc: Global, history: &str) -> Result<Bytes, AllocError> {
 }
 
 pub fn put(text: &mut String, alloc: Global, history: &str) -> Result<(), AllocError> {
-    let mut server = CoapBind::new(alloc, exchanges_of(history), watchers_of(history))?;
+    let mut server = CoapBind::new(alloc, exchanges_of(history), observers_of(history))?;
     server.set_links(links_of(alloc, history)?);
     let mut now = 0;
     for line in history.lines() {

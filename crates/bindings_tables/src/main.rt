@@ -20,6 +20,7 @@ mod fronts;
 mod ids;
 mod messages;
 mod notifications;
+mod observers;
 mod outcomes;
 mod places;
 mod replies;
@@ -29,7 +30,6 @@ mod streams;
 mod talk;
 mod targets;
 mod transfers;
-mod watchers;
 
 use std::alloc::{AllocError, Global};
 use std::{env, fs, io};
@@ -100,7 +100,7 @@ fn put_history(
     match table {
         "exchanges" => exchanges::put(text, alloc, history),
         "datagrams" | "observations" | "blocks" | "links" => datagrams::put(text, alloc, history),
-        "watchers" => watchers::put(text, alloc, history),
+        "watchers" => observers::put(text, alloc, history),
         _ => connections::put(text, alloc, history),
     }
 }

@@ -4,7 +4,7 @@
 ghost use Rattle.std.specs.Prelude.{◌≡◌};
 
 use crate::datagrams::put_sent;
-use crate::watchers::{put_endpoint, target_of};
+use crate::observers::{put_endpoint, target_of};
 use case_notation::{bytes_of, number};
 use coap_bind::CoapBind;
 use coap_msg::{LONGEST_MESSAGE, LONGEST_PAYLOAD};

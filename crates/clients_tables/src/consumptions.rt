@@ -19,7 +19,7 @@ use crate::asking::put_sent;
 use crate::descriptions::{description_of, op_of, value_of};
 use crate::network::network_of;
 use case_notation::{bytes_of, number, put as put_bytes};
-use consuming::{Consumed, Operation, Outcome, Status, consume};
+use consuming::{Consumed, ConsumedOutcome, Status, ThingOperation, consume};
 use servient_outside::{Act, Calls, OutMemory};
 use std::alloc::{AllocError, Global};
 use std::fmt::Write;
@@ -66,8 +66,8 @@ fn put_printed(text: &mut String, printed: &[u8]) -> Result<(), AllocError> {
 fn put_consumed(text: &mut String, consumed: Consumed) -> Result<(), AllocError> {
     match consumed {
         Consumed::Done => text.push_str("done"),
-        Consumed::Other(Outcome::Status(Status::Http(status))) => write!(text, "{status}"),
-        Consumed::Other(Outcome::Status(Status::Coap(code))) => {
+        Consumed::Other(ConsumedOutcome::Status(Status::Http(status))) => write!(text, "{status}"),
+        Consumed::Other(ConsumedOutcome::Status(Status::Coap(code))) => {
             write!(text, "{}.{:02}", code / 32, code % 32)
         }
         Consumed::NoMemory => Err(AllocError),
@@ -91,7 +91,7 @@ pub fn put_done(
 fn put_operation(
     text: &mut String,
     alloc: Global,
-    operation: &Operation<'_>,
+    operation: &ThingOperation<'_>,
     chosen: &Chosen,
     words: &str,
 ) -> Result<(), AllocError>
@@ -140,7 +140,7 @@ fn put_asked<'a>(
     let tree = &asked.tree;
     let name = words.split(' ').nth(1).unwrap_or("");
     let input = asked.input.as_ref();
-    let operation = Operation {
+    let operation = ThingOperation {
         tree,
         op: asked.op,
         name,

@@ -26,7 +26,7 @@ use Rattle.coap_observe.specs.declared.notice.Notice.{Notice}
 use Rattle.coap_observe.specs.Watching.{Watching}
 use Rattle.coap_bind.specs.Blocks.{bodies_after}
 use Rattle.coap_bind.specs.Writing.{Reply, ReplyHead, head_of, head_in}
-use Rattle.coap_bind.specs.Server.{start, Heard, answered_at_once, with_id_used, with_kept, with_watchers, with_emitted, with_links, with_notice_sent, with_report, Replies, Answers, is_request, duplicate_reply, arrival, IsMet, malformed, no_request, duplicate, full, with_parts, with_bodies, replied, bad_option_ignored, gives_links, links_given, observing_in, asks, asks_whole, Reads, settled, admitted, Hears}
+use Rattle.coap_bind.specs.Server.{start, Heard, answered_at_once, with_id_used, with_kept, with_observers, with_emitted, with_links, with_notification_sent, with_report, Replies, Answers, is_request, duplicate_reply, arrival, IsMet, malformed, no_request, duplicate, full, with_parts, with_bodies, replied, bad_option_ignored, gives_links, links_given, observing_in, asks, asks_whole, Reads, settled, admitted, Hears}
 use Rattle.coap_bind.specs.Laws.{IsOpen, DidFrom, Did, nothing, heard_of, answered, emitted, sent, linked}
 use Rattle.coap_bind.specs.Duplicates.{may_keep, OnlyConfirmableAreKept, OnlyTimePassed, DuplicatesChangeNothing, IsRepliedTo, at_once, afterwards, repeated, DuplicatesGetTheFirstReply}
 use Rattle.coap_bind.proofs.HistoryLaws.{sent_stays, met_as_duplicate}
@@ -102,13 +102,13 @@ tidy_hears from bytes now heard s t (admitted m slot u met reads) h =
 
 -- a server that is to reply to a request
 abbrev pub ready : PendingReply → Outcome → Watching → Server → Server
-ready ask o watchers s = with_bodies (bodies_after ask.blocks ask.from o s.bodies) (with_watchers watchers s)
+ready ask o observers s = with_bodies (bodies_after ask.blocks ask.from o s.bodies) (with_observers observers s)
 
 tidy_answers : (ask : PendingReply) (o : Outcome) (target : Option ℕ) (bytes : List ℕ) (s t : Server) → IsOpen ask s → Answers ask o target bytes s t → Tidy s.exchanges → Tidy t.exchanges
 tidy_answers ask o target bytes s t waiting answers h =
-    tidy_replies _ (head_in ask) ask.slot bytes (ready ask o answers.watchers s) t waiting.exchange answers.replies waiting.there waiting.kind h
+    tidy_replies _ (head_in ask) ask.slot bytes (ready ask o answers.observers s) t waiting.exchange answers.replies waiting.there waiting.kind h
 
-pub sent_exchanges : (n : Option Notice) (s t : Server) → t ≡ with_notice_sent n s → t.exchanges ≡ s.exchanges
+pub sent_exchanges : (n : Option Notice) (s t : Server) → t ≡ with_notification_sent n s → t.exchanges ≡ s.exchanges
 sent_exchanges n s t is = ap (λ (x : Server). x.exchanges) is ∙ sent_stays n s
 
 pub tidy_from : (before : Server) (history : List Arrival) (s : Server) → DidFrom before history s → Tidy before.exchanges → Tidy s.exchanges
@@ -117,7 +117,7 @@ tidy_from before history s (heard_of past new r t from bytes now heard did later
 tidy_from before history s (answered past r t ask o target bytes did waiting answers) h = tidy_answers ask o target bytes r t waiting answers (tidy_from before past r did h)
 tidy_from before history s (emitted past r t target did is) h = tidy_same (with_emitted target r) t is (tidy_from before past r did h)
 tidy_from before history s (sent past r t now n did sends) h =
-    subst Tidy (sym (sent_exchanges n (with_watchers sends.watchers r) t sends.after)) (tidy_from before past r did h)
+    subst Tidy (sym (sent_exchanges n (with_observers sends.observers r) t sends.after)) (tidy_from before past r did h)
 tidy_from before history s (linked past r t text did is) h = tidy_same (with_links text r) t is (tidy_from before past r did h)
 
 pub tidy : (capacity : ℕ) (history : List Arrival) (s : Server) → Did capacity history s → Tidy s.exchanges
@@ -245,13 +245,13 @@ keeps_from before history s now slot request reply (heard_of past new r t from b
     keeps_heard from bytes n now heard r t slot request reply hears (moment_of from bytes n heard r t hears) early alive
     (keeps_from before past r now slot request reply did (omega (arith, never_falls from bytes n heard r t hears later, early)) alive k)
 keeps_from before history s now slot request reply (answered past r t ask o target bytes did waiting answers) early alive k =
-    keeps_replies _ (head_in ask) ask.slot bytes (ready ask o answers.watchers r) t waiting.exchange slot request reply answers.replies waiting.there waiting.waits waiting.kind
-    (keeps_from before past r now slot request reply did (omega (arith, replies_moment _ (head_in ask) ask.slot bytes (ready ask o answers.watchers r) t answers.replies, early)) alive k)
+    keeps_replies _ (head_in ask) ask.slot bytes (ready ask o answers.observers r) t waiting.exchange slot request reply answers.replies waiting.there waiting.waits waiting.kind
+    (keeps_from before past r now slot request reply did (omega (arith, replies_moment _ (head_in ask) ask.slot bytes (ready ask o answers.observers r) t answers.replies, early)) alive k)
 keeps_from before history s now slot request reply (emitted past r t target did is) early alive k =
     let same : t.exchanges ≡ r.exchanges = ap (λ (x : Server). x.exchanges) is in
     keeps_same slot request _ r.exchanges t.exchanges same (keeps_from before past r now slot request reply did (moment_same r.exchanges t.exchanges now same early) alive k)
 keeps_from before history s now slot request reply (sent past r t m n did sends) early alive k =
-    let same : t.exchanges ≡ r.exchanges = sent_exchanges n (with_watchers sends.watchers r) t sends.after in
+    let same : t.exchanges ≡ r.exchanges = sent_exchanges n (with_observers sends.observers r) t sends.after in
     keeps_same slot request _ r.exchanges t.exchanges same (keeps_from before past r now slot request reply did (moment_same r.exchanges t.exchanges now same early) alive k)
 keeps_from before history s now slot request reply (linked past r t text did is) early alive k =
     let same : t.exchanges ≡ r.exchanges = ap (λ (x : Server). x.exchanges) is in
@@ -299,7 +299,7 @@ replied_keeps request reply s t (at_once from bytes now m slot u later met reads
 replied_keeps request reply s t (afterwards ask o target waiting answers is) = (
   ask.slot,
   subst (λ a. Keeps ask.slot a (kept_reply a.kind reply) t.exchanges) (sym is)
-      (keeps_first _ (head_in ask) ask.slot reply (ready ask o answers.watchers s) t waiting.exchange answers.replies waiting.there waiting.waits waiting.kind),
+      (keeps_first _ (head_in ask) ask.slot reply (ready ask o answers.observers s) t waiting.exchange answers.replies waiting.there waiting.waits waiting.kind),
 )
 
 tidy_replied : (request : Arrival) (reply : List ℕ) (s t : Server) → IsRepliedTo request reply s t → Tidy s.exchanges → Tidy t.exchanges
@@ -311,7 +311,7 @@ tidy_replied request reply s t (afterwards ask o target waiting answers is) h = 
 only_time_passed : (from : Endpoint) (bytes : List ℕ) (now : ℕ) (m : CoapMessage) (kept : Option ℕ) (s t : Server) → IsMet from bytes now m (Repeat kept) s t → OnlyTimePassed now s t
 only_time_passed from bytes now m kept s t met = record {
   exchanges = met.meets.1;
-  watchers = met.same_watchers;
+  observers = met.same_observers;
   next_id = met.same_id;
   bodies = met.same_bodies;
   parts = met.same_parts;

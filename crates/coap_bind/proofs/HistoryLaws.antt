@@ -20,12 +20,12 @@ use Rattle.coap_exchange.specs.declared.met.Met.{Met}
 use Rattle.coap_exchange.specs.declared.met.Met.TheVariants.{Fresh, Repeat, Full}
 use Rattle.coap_exchange.proofs.HistoryLaws.{tables_follow_the_history}
 use Rattle.coap_observe.specs.declared.notice.Notice.{Notice}
-use Rattle.coap_opts.specs.Reading.{PlainAsk, asked as what_is_asked}
+use Rattle.coap_opts.specs.Reading.{AskSeen, asked as what_is_asked}
 use Rattle.coap_bind.specs.declared.pending.PendingReply.{PendingReply}
 use Rattle.coap_bind.specs.declared.server.Server.{Server}
 use Rattle.coap_bind.specs.Blocks.{bodies_after}
 use Rattle.coap_bind.specs.Writing.{Reply, ReplyHead, head_of, head_in}
-use Rattle.coap_bind.specs.Server.{start, Heard, asked, with_next_id, with_id_used, with_kept, with_watchers, with_emitted, with_links, with_notice_sent, with_report, Replies, is_request, replied_at_once, duplicate_reply, arrival, IsMet, malformed, no_request, duplicate, full, with_parts, with_bodies, replied, bad_option_ignored, gives_links, links_given, observing_in, asks, asks_whole, Reads, settled, admitted, Hears}
+use Rattle.coap_bind.specs.Server.{start, Heard, asked, with_next_id, with_id_used, with_kept, with_observers, with_emitted, with_links, with_notification_sent, with_report, Replies, is_request, replied_at_once, duplicate_reply, arrival, IsMet, malformed, no_request, duplicate, full, with_parts, with_bodies, replied, bad_option_ignored, gives_links, links_given, observing_in, asks, asks_whole, Reads, settled, admitted, Hears}
 use Rattle.coap_bind.specs.Laws.{AreArrivals, DidFrom, Did, nothing, heard_of, answered, emitted, sent, linked, ExchangesAreOfTheHistory, DuplicatesAskNothing}
 
 -- ---- replies change no arrival
@@ -72,12 +72,12 @@ fresh_stays : (s : Server) (b : Bool) → (if b then with_next_id s else s).exch
 fresh_stays s true = refl
 fresh_stays s false = refl
 
-pub sent_stays : (n : Option Notice) (s : Server) → (with_notice_sent n s).exchanges ≡ s.exchanges
+pub sent_stays : (n : Option Notice) (s : Server) → (with_notification_sent n s).exchanges ≡ s.exchanges
 sent_stays None s = refl
 sent_stays (Some n) s = fresh_stays s n.fresh
 
 follows_sent : (capacity : ℕ) (history : List Arrival) (n : Option Notice) (s : Server) → Follows capacity history s.exchanges
-    → Follows capacity history (with_notice_sent n s).exchanges
+    → Follows capacity history (with_notification_sent n s).exchanges
 follows_sent capacity history n s f = subst (λ (t : Table). Follows capacity history t) (sym (sent_stays n s)) f
 
 follows_reads : (capacity : ℕ) (history : List Arrival) (from : Endpoint) (now : ℕ) (m : CoapMessage) (slot : ℕ) (heard : Heard) (s t : Server) → Reads from now m slot heard s t
@@ -150,20 +150,20 @@ follows_hears capacity history new s t from bytes now heard (settled (full m u m
 follows_hears capacity history new s t from bytes now heard (admitted m slot u met reads) later are x =
     follows_reads capacity (history ++ new) from now m slot heard u t reads (after_request capacity history new from bytes now m (Fresh slot) s u met later are x)
 
-follows_from : (capacity watchers : ℕ) (history : List Arrival) (s : Server) → DidFrom (start capacity watchers) history s → Follows capacity history s.exchanges
-follows_from capacity watchers history s nothing = record { stands = refl; same = refl }
-follows_from capacity watchers history s (heard_of before new r t from bytes now heard did later hears are) =
-    follows_hears capacity before new r t from bytes now heard hears later are (follows_from capacity watchers before r did)
-follows_from capacity watchers history s (answered before r t ask o target bytes did open_ask answers) =
-    follows_replies capacity before _ (head_in ask) ask.slot bytes (with_bodies (bodies_after ask.blocks ask.from o r.bodies) (with_watchers answers.watchers r)) t answers.replies
-    (follows_from capacity watchers before r did)
-follows_from capacity watchers history s (emitted before r t target did is) =
-    follows_same capacity before (with_emitted target r) t is (follows_from capacity watchers before r did)
-follows_from capacity watchers history s (sent before r t now n did sends) =
-    follows_same capacity before (with_notice_sent n (with_watchers sends.watchers r)) t sends.after
-    (follows_sent capacity before n (with_watchers sends.watchers r) (follows_from capacity watchers before r did))
-follows_from capacity watchers history s (linked before r t text did is) =
-    follows_same capacity before (with_links text r) t is (follows_from capacity watchers before r did)
+follows_from : (capacity observers : ℕ) (history : List Arrival) (s : Server) → DidFrom (start capacity observers) history s → Follows capacity history s.exchanges
+follows_from capacity observers history s nothing = record { stands = refl; same = refl }
+follows_from capacity observers history s (heard_of before new r t from bytes now heard did later hears are) =
+    follows_hears capacity before new r t from bytes now heard hears later are (follows_from capacity observers before r did)
+follows_from capacity observers history s (answered before r t ask o target bytes did open_ask answers) =
+    follows_replies capacity before _ (head_in ask) ask.slot bytes (with_bodies (bodies_after ask.blocks ask.from o r.bodies) (with_observers answers.observers r)) t answers.replies
+    (follows_from capacity observers before r did)
+follows_from capacity observers history s (emitted before r t target did is) =
+    follows_same capacity before (with_emitted target r) t is (follows_from capacity observers before r did)
+follows_from capacity observers history s (sent before r t now n did sends) =
+    follows_same capacity before (with_notification_sent n (with_observers sends.observers r)) t sends.after
+    (follows_sent capacity before n (with_observers sends.observers r) (follows_from capacity observers before r did))
+follows_from capacity observers history s (linked before r t text did is) =
+    follows_same capacity before (with_links text r) t is (follows_from capacity observers before r did)
 
 follows : (capacity : ℕ) (history : List Arrival) (s : Server) → Did capacity history s → Follows capacity history s.exchanges
 follows capacity history s did = follows_from capacity did.0 history s did.1
@@ -173,11 +173,11 @@ exchanges_are_of_the_history capacity history s did = let f = follows capacity h
 
 -- ---- duplicates ask nothing
 
-pub not_replied : (what : PlainAsk) (ask : PendingReply) (reply : Option CoapMessage) → asked what ask ≡ replied_at_once reply → ⊥
+pub not_replied : (what : AskSeen) (ask : PendingReply) (reply : Option CoapMessage) → asked what ask ≡ replied_at_once reply → ⊥
 not_replied what ask None e = cc
 not_replied what ask (Some m) e = cc
 
-pub not_duplicate : (what : PlainAsk) (ask : PendingReply) (kind : RequestType) (kept : Option (List ℕ)) → asked what ask ≡ duplicate_reply kind kept → ⊥
+pub not_duplicate : (what : AskSeen) (ask : PendingReply) (kind : RequestType) (kept : Option (List ℕ)) → asked what ask ≡ duplicate_reply kind kept → ⊥
 not_duplicate what ask Confirmable (Some bytes) e = cc
 not_duplicate what ask Confirmable None e = cc
 not_duplicate what ask NonConfirmable kept e = cc

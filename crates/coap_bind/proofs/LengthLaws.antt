@@ -177,10 +177,10 @@ pub record IsShortStart (o : Outcome) : Type 0 where
   pub status : length (payload_of o) ≤ 100
   pub json : text_format o ≡ JSON
   pub no_version : version_of o ≡ None
-  pub no_notice : may_notify o ≡ false
+  pub no_notification : may_notify o ≡ false
 
 pub place_bound : (o : Outcome) → HasShortPlace o → (place_of o ≡ []) ⊎ IsShortStart o
-place_bound (Started place status) h = inr (record { few = h.0; short = h.1; status = h.2; json = refl; no_version = refl; no_notice = refl })
+place_bound (Started place status) h = inr (record { few = h.0; short = h.1; status = h.2; json = refl; no_version = refl; no_notification = refl })
 place_bound _ h = inl refl
 
 payload_length : (payload : List ℕ) → length (payload_spelling payload) ≤ 1 + length payload
@@ -244,7 +244,7 @@ part_fits : (o : Outcome) (p : Portion) (observe : Option ℕ) (head : ReplyHead
     → length (spelling (coap_reply (observed observe (reply_with p o)) head next)) ≤ LONGEST_MESSAGE
 part_fits o p observe head next token short unobserved (inl none) = let l = part_length o p observe head next 5 (no_place_bound o none) in let s = short.0 in omega arith
 part_fits o p observe head next token short unobserved (inr start) =
-    let l = bare_length o p observe head next 1030 (short_place_bound o start) start.no_version (unobserved start.no_notice) in
+    let l = bare_length o p observe head next 1030 (short_place_bound o start) start.no_version (unobserved start.no_notification) in
     let status = start.status in
     let s = short.1 in
     omega arith
@@ -323,9 +323,9 @@ no_sequence does from token old new observe (cancels is none gone) never = none
 no_sequence does from token old new observe (registers target r is did says) never = absurd (never target is)
 
 pub replies_fit : RepliesFit
-replies_fit ask o target s may place observe watchers watches =
+replies_fit ask o target s may place observe observers watches =
     reply_at ask.blocks o observe (head_in ask) s.next_id (nat_lt (most_bytes ask.blocks o) (length (payload_of o))) refl may.token place may.blocks
-    (λ quiet. no_sequence (effect_of ask.observing o target) ask.from ask.token s.watchers watchers observe watches
+    (λ quiet. no_sequence (effect_of ask.observing o target) ask.from ask.token s.observers observers observe watches
     (λ t. never_registers ask.observing o target t quiet))
 
 -- ---- the two kinds of replies

@@ -10,7 +10,7 @@ use Rattle.coap_msg.specs.declared.endpoint.Endpoint.{Endpoint}
 use Rattle.coap_msg.specs.Grammar.{CoapMessage}
 use Rattle.coap_msg.specs.Requests.{request_type}
 use Rattle.coap_exchange.specs.Table.{Exchange, exchange_in, at_moment}
-use Rattle.coap_opts.specs.Reading.{PlainAsk}
+use Rattle.coap_opts.specs.Reading.{AskSeen}
 use Rattle.coap_bind.specs.declared.pending.PendingReply.{PendingReply}
 use Rattle.coap_bind.specs.declared.server.Server.{Server}
 use Rattle.coap_exchange.specs.declared.met.Met.TheVariants.{Fresh}
@@ -21,7 +21,7 @@ use Rattle.coap_bind.proofs.HistoryLaws.{not_replied, not_duplicate}
 same_number : (n : ℕ) → (n == n) ≡ true
 same_number n = grind (arith, nat_tests)
 
-asks_at_once : (what : PlainAsk) (ask : PendingReply) (bytes : List ℕ) → asked what ask ≡ answered_at_once bytes → ⊥
+asks_at_once : (what : AskSeen) (ask : PendingReply) (bytes : List ℕ) → asked what ask ≡ answered_at_once bytes → ⊥
 asks_at_once what ask bytes e = cc
 
 last_found : (slot : ℕ) (es : List Exchange) (e : Exchange) → find (λ x. x.slot == slot) es ≡ None → (e.slot == slot) ≡ true
@@ -45,7 +45,7 @@ open_at ask other s t u e same is exchanges there waits kind =
     (subst (λ (a : PendingReply). IsOpen a u) (sym same)
     (record { exchange = e; there = ap (exchange_in other.slot) exchanges ∙ there; waits = waits; kind = kind }))
 
-reads_open : (from : Endpoint) (now : ℕ) (m : CoapMessage) (slot : ℕ) (what : PlainAsk) (ask : PendingReply) (s t : Server) (e : Exchange) → Reads from now m slot (asked what ask) s t
+reads_open : (from : Endpoint) (now : ℕ) (m : CoapMessage) (slot : ℕ) (what : AskSeen) (ask : PendingReply) (s t : Server) (e : Exchange) → Reads from now m slot (asked what ask) s t
     → exchange_in slot s.exchanges ≡ Some e → e.reply ≡ None → request_type m.kind ≡ e.arrival.kind → IsOpen ask t
 reads_open from now m slot what ask s t e (replied r parts bytes why replies h) there waits kind = absurd (asks_at_once what ask bytes h)
 reads_open from now m slot what ask s t e (bad_option_ignored number fault non h is) there waits kind = cc

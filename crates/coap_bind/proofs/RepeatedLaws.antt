@@ -17,7 +17,7 @@ use Rattle.coap_exchange.specs.declared.met.Met.TheVariants.{Fresh, Full}
 use Rattle.coap_opts.specs.Reading.{asked as what_is_asked}
 use Rattle.coap_bind.specs.declared.server.Server.{Server}
 use Rattle.coap_bind.specs.Writing.{Reply, ReplyHead, head_of, head_in}
-use Rattle.coap_bind.specs.Server.{start, Heard, ignored, answered_at_once, with_id_used, with_kept, with_watchers, Replies, Answers, is_request, duplicate_reply, arrival, IsMet, malformed, no_request, duplicate, full, with_parts, replied, bad_option_ignored, gives_links, links_given, observing_in, asks, asks_whole, Reads, settled, admitted, Hears}
+use Rattle.coap_bind.specs.Server.{start, Heard, ignored, answered_at_once, with_id_used, with_kept, with_observers, Replies, Answers, is_request, duplicate_reply, arrival, IsMet, malformed, no_request, duplicate, full, with_parts, replied, bad_option_ignored, gives_links, links_given, observing_in, asks, asks_whole, Reads, settled, admitted, Hears}
 use Rattle.thing_ops.specs.declared.outcome.Outcome.{Outcome}
 use Rattle.coap_bind.specs.declared.pending.PendingReply.{PendingReply}
 use Rattle.coap_bind.specs.Laws.{AreArrivals, IsOpen, DidFrom, nothing, heard_of, answered, emitted, sent, linked}
@@ -158,13 +158,13 @@ was_replied before history t slot reply e (heard_of past new r u from bytes now 
     (λ there. was_replied before past r slot reply e did h none there has)
 was_replied before history t slot reply e (answered past r u ask o target bytes did waiting answers) h none found has =
     answered_was before past r u ask o target bytes slot reply e did waiting answers
-    (replies_back _ (head_in ask) ask.slot bytes (ready ask o answers.watchers r) u slot reply e waiting.exchange answers.replies waiting.there has found)
+    (replies_back _ (head_in ask) ask.slot bytes (ready ask o answers.observers r) u slot reply e waiting.exchange answers.replies waiting.there has found)
     (λ there. was_replied before past r slot reply e did h none there has)
 was_replied before history t slot reply e (emitted past r u target did is) h none found has =
     let w = was_replied before past r slot reply e did h none (same_back slot e r.exchanges u.exchanges (ap (λ (x : Server). x.exchanges) is) found) has in
     record { history = w.history; later = w.later; s = w.s; t = w.t; did = w.did; replied = w.replied; since = emitted w.later r u target w.since is }
 was_replied before history t slot reply e (sent past r u now n did sends) h none found has =
-    let w = was_replied before past r slot reply e did h none (same_back slot e r.exchanges u.exchanges (sent_exchanges n (with_watchers sends.watchers r) u sends.after) found) has in
+    let w = was_replied before past r slot reply e did h none (same_back slot e r.exchanges u.exchanges (sent_exchanges n (with_observers sends.observers r) u sends.after) found) has in
     record { history = w.history; later = w.later; s = w.s; t = w.t; did = w.did; replied = w.replied; since = sent w.later r u now n w.since sends }
 was_replied before history t slot reply e (linked past r u text did is) h none found has =
     let w = was_replied before past r slot reply e did h none (same_back slot e r.exchanges u.exchanges (ap (λ (x : Server). x.exchanges) is) found) has in
@@ -194,16 +194,16 @@ confirmable_of NonConfirmable None reply is well = cc
 
 -- the bytes that a duplicate of this exchange is answered were sent first in reply to a request
 abbrev Repeats : ℕ → ℕ → Heard → RequestType → Arrival → Server → Type 0
-Repeats capacity watchers heard kind a u =
+Repeats capacity observers heard kind a u =
     (heard ≡ ignored)
     ⊎ ((request : Arrival) × (reply : List ℕ) × (heard ≡ answered_at_once reply) × (is_duplicate_of a request ≡ true)
-    × (kind ≡ Confirmable) × (request.kind ≡ Confirmable) × WasRepliedTo (start capacity watchers) request reply u)
+    × (kind ≡ Confirmable) × (request.kind ≡ Confirmable) × WasRepliedTo (start capacity observers) request reply u)
 
-repeats_kept : (capacity watchers : ℕ) (history : List Arrival) (u : Server) (now slot : ℕ) (heard : Heard) (kind : RequestType) (a : Arrival) (e : Exchange) → DidFrom (start capacity watchers) history u
-    → exchange_in slot (at_moment now u.exchanges) ≡ Some e → is_duplicate_of a e.arrival ≡ true → IsKept kind e.reply heard → Repeats capacity watchers heard kind a u
-repeats_kept capacity watchers history u now slot heard kind a e did there again (inl is) = inl is
-repeats_kept capacity watchers history u now slot heard kind a e did there again (inr h) =
-    let order = tidy capacity history u (watchers, did) in
+repeats_kept : (capacity observers : ℕ) (history : List Arrival) (u : Server) (now slot : ℕ) (heard : Heard) (kind : RequestType) (a : Arrival) (e : Exchange) → DidFrom (start capacity observers) history u
+    → exchange_in slot (at_moment now u.exchanges) ≡ Some e → is_duplicate_of a e.arrival ≡ true → IsKept kind e.reply heard → Repeats capacity observers heard kind a u
+repeats_kept capacity observers history u now slot heard kind a e did there again (inl is) = inl is
+repeats_kept capacity observers history u now slot heard kind a e did there again (inr h) =
+    let order = tidy capacity history u (observers, did) in
     let here = moment_back now slot u.exchanges e order there in
     inr (
       e.arrival,
@@ -212,35 +212,35 @@ repeats_kept capacity watchers history u now slot heard kind a e did there again
       again,
       h.2,
       confirmable_of e.arrival.kind e.reply h.0 h.3 (well_in_slot u.exchanges.exchanges slot e order.kept here),
-      was_replied (start capacity watchers) history u slot h.0 e did (record { distinct = tt; kept = tt }) (nothing_kept (start capacity watchers).exchanges refl) here h.3,
+      was_replied (start capacity observers) history u slot h.0 e did (record { distinct = tt; kept = tt }) (nothing_kept (start capacity observers).exchanges refl) here h.3,
     )
 
 pub only_the_first_reply_is_repeated : OnlyTheFirstReplyIsRepeated
-only_the_first_reply_is_repeated capacity watchers history u v from bytes now m heard earlier did later spells request has again (settled (malformed f fault is same)) = absurd (no_fault_of_message f m bytes spells fault)
-only_the_first_reply_is_repeated capacity watchers history u v from bytes now m heard earlier did later spells request has again (settled (no_request n of_n isnt is same)) =
+only_the_first_reply_is_repeated capacity observers history u v from bytes now m heard earlier did later spells request has again (settled (malformed f fault is same)) = absurd (no_fault_of_message f m bytes spells fault)
+only_the_first_reply_is_repeated capacity observers history u v from bytes now m heard earlier did later spells request has again (settled (no_request n of_n isnt is same)) =
     absurd (differ (subst (λ (x : CoapMessage). is_request x ≡ false) (at_most_one_message n m bytes of_n spells) isnt))
   where
     differ : is_request m ≡ false → ⊥
     differ isnt' = cc
-only_the_first_reply_is_repeated capacity watchers history u v from bytes now m heard earlier did later spells request has again (settled (duplicate n kept e met found is)) =
+only_the_first_reply_is_repeated capacity observers history u v from bytes now m heard earlier did later spells request has again (settled (duplicate n kept e met found is)) =
     let same : n ≡ m = at_most_one_message n m bytes met.spells spells in
     let d = met.meets.0 in
     let one : d.0 ≡ e = same_exchange d.0 e (sym d.1 ∙ found) in
     let there : exchange_in d.0.slot (at_moment now u.exchanges) ≡ Some e = d.2 ∙ ap Some one in
     let passes : is_duplicate_of (arrival from now n) e.arrival ≡ true
     = found_passes (λ (x : Exchange). is_duplicate_of (arrival from now n) x.arrival) (at_moment now u.exchanges).exchanges e found in
-    repeats_kept capacity watchers history u now d.0.slot heard (request_type m.kind) (arrival from now m) e did there
+    repeats_kept capacity observers history u now d.0.slot heard (request_type m.kind) (arrival from now m) e did there
     (subst (λ (x : CoapMessage). is_duplicate_of (arrival from now x) e.arrival ≡ true) same passes)
     (is_kept (request_type m.kind) e.reply heard (is ∙ ap (λ (x : CoapMessage). duplicate_reply (request_type x.kind) e.reply) same))
-only_the_first_reply_is_repeated capacity watchers history u v from bytes now m heard earlier did later spells request has again (settled (full n w met is same)) =
+only_the_first_reply_is_repeated capacity observers history u v from bytes now m heard earlier did later spells request has again (settled (full n w met is same)) =
     let of_n : is_duplicate_of (arrival from now n) earlier ≡ true = subst (λ (x : CoapMessage). is_duplicate_of (arrival from now x) earlier ≡ true) (sym (at_most_one_message n m bytes met.spells spells)) again in
-    absurd (differ (met_as_duplicate capacity history u w.exchanges (arrival from now n) earlier Full (watchers, did) later has of_n met.meets))
+    absurd (differ (met_as_duplicate capacity history u w.exchanges (arrival from now n) earlier Full (observers, did) later has of_n met.meets))
   where
     differ : is_duplicate ≡ is_refused → ⊥
     differ x = cc
-only_the_first_reply_is_repeated capacity watchers history u v from bytes now m heard earlier did later spells request has again (admitted n slot w met reads) =
+only_the_first_reply_is_repeated capacity observers history u v from bytes now m heard earlier did later spells request has again (admitted n slot w met reads) =
     let of_n : is_duplicate_of (arrival from now n) earlier ≡ true = subst (λ (x : CoapMessage). is_duplicate_of (arrival from now x) earlier ≡ true) (sym (at_most_one_message n m bytes met.spells spells)) again in
-    absurd (differ (met_as_duplicate capacity history u w.exchanges (arrival from now n) earlier (Fresh slot) (watchers, did) later has of_n met.meets))
+    absurd (differ (met_as_duplicate capacity history u w.exchanges (arrival from now n) earlier (Fresh slot) (observers, did) later has of_n met.meets))
   where
     differ : is_duplicate ≡ is_admitted → ⊥
     differ x = cc

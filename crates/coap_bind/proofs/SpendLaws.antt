@@ -14,15 +14,15 @@ use Rattle.coap_blocks.specs.Parts.{Part}
 use Rattle.coap_blocks.specs.declared.added.Added.{Added}
 use Rattle.coap_blocks.specs.declared.added.Added.TheVariants as answer
 use Rattle.coap_observe.specs.declared.notice.Notice.{Notice}
-use Rattle.coap_opts.specs.Reading.{PlainAsk, asked as what_is_asked}
+use Rattle.coap_opts.specs.Reading.{AskSeen, asked as what_is_asked}
 use Rattle.coap_opts.specs.declared.fault.AskFault.{AskFault}
-use Rattle.coap_bind.specs.declared.blocks.Wanted.TheVariants as wanted
+use Rattle.coap_bind.specs.declared.blocks.BlockWish.TheVariants as wanted
 use Rattle.coap_bind.specs.declared.observing.Observing.{Observing}
 use Rattle.coap_bind.specs.declared.observing.Observing.TheVariants as observing
 use Rattle.coap_bind.specs.declared.server.Server.{Server}
 use Rattle.coap_bind.specs.Blocks.{added_reply, bodies_after, block2_of, wanted_by_get, wanted_by_body, wanted_of}
 use Rattle.coap_bind.specs.Laws.{DidFrom, nothing, heard_of, answered, emitted, sent, linked}
-use Rattle.coap_bind.specs.Server.{start, Heard, with_next_id, with_id_used, with_kept, with_watchers, with_bodies, with_parts, with_notice_sent, Replies, observing_in, wanted_in, block_arrival, Adds, IsAnsweredAtOnce, bad_option, bad_block, for_proxy, no_memory, later_block, joined, takes_no_other_verb, takes_no_body, Reads, replied, bad_option_ignored, asks_links, gives_links, links_given, asks, asks_whole, malformed, no_request, duplicate, full, settled, admitted, Hears}
+use Rattle.coap_bind.specs.Server.{start, Heard, with_next_id, with_id_used, with_kept, with_observers, with_bodies, with_parts, with_notification_sent, Replies, observing_in, wanted_in, block_arrival, Adds, IsAnsweredAtOnce, bad_option, bad_block, for_proxy, no_memory, later_block, joined, takes_no_other_verb, takes_no_body, Reads, replied, bad_option_ignored, asks_links, gives_links, links_given, asks, asks_whole, malformed, no_request, duplicate, full, settled, admitted, Hears}
 use Rattle.coap_bind.specs.Transfers.{NamesNoBlock, RequestsWithoutBlocksAct, AnswersLeaveTheParts, Spends, no_call, goes_on, spends, NoWholeBodyStays}
 use Rattle.thing_ops.specs.declared.outcome.Outcome.TheVariants.{Memory}
 use Rattle.coap_bind.specs.Writing.{Reply, reply_of, ReplyHead, head_of, head_in}
@@ -44,16 +44,16 @@ fresh_parts : (s : Server) (b : Bool) → (if b then with_next_id s else s).part
 fresh_parts s true = refl
 fresh_parts s false = refl
 
-sent_parts : (n : Option Notice) (s : Server) → (with_notice_sent n s).parts ≡ s.parts
+sent_parts : (n : Option Notice) (s : Server) → (with_notification_sent n s).parts ≡ s.parts
 sent_parts None s = refl
 sent_parts (Some n) s = fresh_parts s n.fresh
 
 pub answers_leave_the_parts : AnswersLeaveTheParts
-answers_leave_the_parts ask o target bytes s t h = replies_parts _ (head_in ask) ask.slot bytes (with_bodies (bodies_after ask.blocks ask.from o s.bodies) (with_watchers h.watchers s)) t h.replies
+answers_leave_the_parts ask o target bytes s t h = replies_parts _ (head_in ask) ask.slot bytes (with_bodies (bodies_after ask.blocks ask.from o s.bodies) (with_observers h.observers s)) t h.replies
 
 -- ---- requests without blocks
 
-act_at : (code : ℕ) (o : Observing) (a : PlainAsk) → a.block1 ≡ None → a.block2 ≡ None → wanted_of code o a ≡ wanted.Act
+act_at : (code : ℕ) (o : Observing) (a : AskSeen) → a.block1 ≡ None → a.block2 ≡ None → wanted_of code o a ≡ wanted.Act
 act_at code o a one two = by_tests (code == GET) (code == POST || code == PUT)
   where
     no_block : (x : Observing) → block2_of x a ≡ None
@@ -152,15 +152,15 @@ spent_hears from bytes now heard s t (settled (full m u met is same)) h =
     spent_same s.parts t.parts (ap (λ (x : Server). x.parts) same ∙ (used_parts (request_type m.kind) u ∙ met.same_parts)) h
 spent_hears from bytes now heard s t (admitted m slot u met reads) h = spent_reads from now m slot heard u t reads (spent_same s.parts u.parts met.same_parts h)
 
-spent_from : (capacity watchers : ℕ) (history : List Arrival) (s : Server) → DidFrom (start capacity watchers) history s → AreSpent s.parts
-spent_from capacity watchers history s nothing = ([], no_call)
-spent_from capacity watchers history s (heard_of past new r t from bytes now heard did later hears are) = spent_hears from bytes now heard r t hears (spent_from capacity watchers past r did)
-spent_from capacity watchers history s (answered past r t ask o target bytes did waiting answers) =
-    spent_same r.parts t.parts (answers_leave_the_parts ask o target bytes r t answers) (spent_from capacity watchers past r did)
-spent_from capacity watchers history s (emitted past r t target did is) = spent_same r.parts t.parts (ap (λ (x : Server). x.parts) is) (spent_from capacity watchers past r did)
-spent_from capacity watchers history s (sent past r t now n did sends) =
-    spent_same r.parts t.parts (ap (λ (x : Server). x.parts) sends.after ∙ sent_parts n (with_watchers sends.watchers r)) (spent_from capacity watchers past r did)
-spent_from capacity watchers history s (linked past r t text did is) = spent_same r.parts t.parts (ap (λ (x : Server). x.parts) is) (spent_from capacity watchers past r did)
+spent_from : (capacity observers : ℕ) (history : List Arrival) (s : Server) → DidFrom (start capacity observers) history s → AreSpent s.parts
+spent_from capacity observers history s nothing = ([], no_call)
+spent_from capacity observers history s (heard_of past new r t from bytes now heard did later hears are) = spent_hears from bytes now heard r t hears (spent_from capacity observers past r did)
+spent_from capacity observers history s (answered past r t ask o target bytes did waiting answers) =
+    spent_same r.parts t.parts (answers_leave_the_parts ask o target bytes r t answers) (spent_from capacity observers past r did)
+spent_from capacity observers history s (emitted past r t target did is) = spent_same r.parts t.parts (ap (λ (x : Server). x.parts) is) (spent_from capacity observers past r did)
+spent_from capacity observers history s (sent past r t now n did sends) =
+    spent_same r.parts t.parts (ap (λ (x : Server). x.parts) sends.after ∙ sent_parts n (with_observers sends.observers r)) (spent_from capacity observers past r did)
+spent_from capacity observers history s (linked past r t text did is) = spent_same r.parts t.parts (ap (λ (x : Server). x.parts) is) (spent_from capacity observers past r did)
 
 -- calls one after another
 calls_append : (parts : List Part) (calls more : List Call) → parts_after parts (calls ++ more) ≡ parts_after (parts_after parts calls) more

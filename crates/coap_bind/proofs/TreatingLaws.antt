@@ -18,15 +18,15 @@ use Rattle.coap_exchange.specs.declared.met.Met.TheVariants.{Fresh}
 use Rattle.coap_exchange.specs.Admission.{Arrival}
 use Rattle.coap_exchange.specs.Table.{Exchange, Table, at_moment, exchange_in, with_exchange, with_reply, answered as with_answer}
 use Rattle.coap_observe.specs.Watching.{Watching}
-use Rattle.coap_opts.specs.Reading.{PlainAsk, faults_of, asked as what_is_asked}
+use Rattle.coap_opts.specs.Reading.{AskSeen, faults_of, asked as what_is_asked}
 use Rattle.coap_opts.specs.declared.fault.AskFault.{AskFault}
 use Rattle.thing_ops.specs.Outcomes.{HasCode}
 use Rattle.coap_bind.specs.declared.pending.PendingReply.{PendingReply}
 use Rattle.coap_bind.specs.declared.server.Server.{Server}
 use Rattle.coap_blocks.specs.Parts.{Part}
-use Rattle.coap_bind.specs.declared.blocks.Wanted.TheVariants as wanted
+use Rattle.coap_bind.specs.declared.blocks.BlockWish.TheVariants as wanted
 use Rattle.coap_bind.specs.Blocks.{answer_reply}
-use Rattle.coap_bind.specs.Links.{links_reply, size_asked, watchers_with_links}
+use Rattle.coap_bind.specs.Links.{links_reply, size_asked, observers_with_links}
 use Rattle.coap_bind.specs.Observing.{effect_of, Watches}
 use Rattle.coap_bind.proofs.DuplicateLaws.{ready}
 use Rattle.coap_bind.specs.Writing.{Reply, observed, ReplyHead, head_of, head_in, coap_reply}
@@ -75,24 +75,24 @@ kept_exchanges : (kind : RequestType) (slot : ℕ) (reply : List ℕ) (u : Serve
 kept_exchanges Confirmable slot reply u a t is none = ap (λ (x : Table). (with_reply slot reply x).exchanges) is ∙ with_reply_is slot reply a t none
 kept_exchanges NonConfirmable slot reply u a t is none = ap (λ (x : Table). x.exchanges) is
 
-kept_watchers : (kind : RequestType) (slot : ℕ) (reply : List ℕ) (u : Server) → (with_kept kind slot reply (with_id_used kind u)).watchers ≡ u.watchers
-kept_watchers Confirmable slot reply u = refl
-kept_watchers NonConfirmable slot reply u = refl
+kept_observers : (kind : RequestType) (slot : ℕ) (reply : List ℕ) (u : Server) → (with_kept kind slot reply (with_id_used kind u)).observers ≡ u.observers
+kept_observers Confirmable slot reply u = refl
+kept_observers NonConfirmable slot reply u = refl
 
 used_exchanges : (kind : RequestType) (u : Server) → (with_id_used kind u).exchanges ≡ u.exchanges
 used_exchanges Confirmable u = refl
 used_exchanges NonConfirmable u = refl
 
-used_watchers : (kind : RequestType) (u : Server) → (with_id_used kind u).watchers ≡ u.watchers
-used_watchers Confirmable u = refl
-used_watchers NonConfirmable u = refl
+used_observers : (kind : RequestType) (u : Server) → (with_id_used kind u).observers ≡ u.observers
+used_observers Confirmable u = refl
+used_observers NonConfirmable u = refl
 
 -- ---- the datagram that was heard
 
 some_fault : (m : CoapMessage) (f : AskFault) → slice_get (faults_of m.options) 0 ≡ Some f → faults_of m.options ≢ []
 some_fault m f e none = let no_fault : slice_get (faults_of m.options) 0 ≡ None = ap (λ l. slice_get l 0) none in absurd (cc)
 
-abbrev what_in : PlainAsk → Heard → PlainAsk
+abbrev what_in : AskSeen → Heard → AskSeen
 what_in w ignored = w
 what_in w (answered_at_once bytes) = w
 what_in w (asked what ask) = what
@@ -106,12 +106,12 @@ ask_in a (asked what ask) = ask
 
 -- a request that was admitted, and answered at once by a server that has changed, with these observers
 treated_at_once : (from : Endpoint) (bytes : List ℕ) (now : ℕ) (act : Option Acted) (back : List (List ℕ)) (s v u t : Server) (m : CoapMessage) (slot : ℕ) (r : Reply) (reply : List ℕ) (w : Watching)
-    → IsMet from bytes now m (Fresh slot) s u → v.watchers ≡ w → v.exchanges ≡ u.exchanges → Replies r (head_of m) slot reply v t
-    → (v.next_id ≡ u.next_id) → (t.watchers ≡ w → IsReplied from now m act r s.watchers t.watchers)
+    → IsMet from bytes now m (Fresh slot) s u → v.observers ≡ w → v.exchanges ≡ u.exchanges → Replies r (head_of m) slot reply v t
+    → (v.next_id ≡ u.next_id) → (t.observers ≡ w → IsReplied from now m act r s.observers t.observers)
     → back ≡ reply ∷ [] → IsTreated from bytes now act back s t
-treated_at_once from bytes now act back s v u t m slot r reply w met watchers exchanges replies id why is =
+treated_at_once from bytes now act back s v u t m slot r reply w met observers exchanges replies id why is =
     is_answered m slot r reply met.spells met.request met.meets.1.1
-    (why (ap (λ (x : Server). x.watchers) replies.after ∙ (kept_watchers (request_type m.kind) slot reply v ∙ watchers)))
+    (why (ap (λ (x : Server). x.observers) replies.after ∙ (kept_observers (request_type m.kind) slot reply v ∙ observers)))
     (replies.bytes_are ∙ ap (λ (n : ℕ). spelling (coap_reply r (head_of m) n)) (id ∙ met.same_id)) is
     (ap (λ (x : Server). x.exchanges.exchanges) replies.after
     ∙ kept_exchanges (request_type m.kind) slot reply v (arrival from now m) (at_moment now s.exchanges) (exchanges ∙ met.meets.1.2) met.meets.1.1)
@@ -136,15 +136,15 @@ why_replied from now m act r s parts none (takes_no_body b place whole faultless
 
 -- a datagram that is settled, and not asked for
 treated_settled : (from : Endpoint) (bytes : List ℕ) (now : ℕ) (h : Heard) (act : Option Acted) (back : List (List ℕ)) (s t : Server) → act ≡ None → back ≡ sent_back h
-    → Hears from bytes now h s t → ((what : PlainAsk) (ask : PendingReply) → h ≡ asked what ask → ⊥) → IsTreated from bytes now act back s t
+    → Hears from bytes now h s t → ((what : AskSeen) (ask : PendingReply) → h ≡ asked what ask → ⊥) → IsTreated from bytes now act back s t
 treated_settled from bytes now h act back s t none is (settled (malformed f fault e same)) unasked =
     no_request (λ m spells request. no_fault_of_message f m bytes spells fault) (λ m spells kind. absurd (no_fault_of_message f m bytes spells fault)) none
-    (ap (λ (x : Server). x.exchanges) same) (inl (ap (λ (x : Server). x.watchers) same))
+    (ap (λ (x : Server). x.exchanges) same) (inl (ap (λ (x : Server). x.observers) same))
 treated_settled from bytes now h act back s t none is (settled (is_no_request n spells isnt e same)) unasked =
     no_request (λ m other request.
     let one : is_request m ≡ false = subst (λ (x : CoapMessage). is_request x ≡ false) (at_most_one_message n m bytes spells other) isnt in
     absurd (cc)) (λ m other kind. is ∙ (ap sent_back e ∙ silent n m (at_most_one_message n m bytes spells other) kind)) none
-    (ap (λ (x : Server). x.exchanges) same) (inr (n, spells, ap (λ (x : Server). x.watchers) same))
+    (ap (λ (x : Server). x.exchanges) same) (inr (n, spells, ap (λ (x : Server). x.observers) same))
   where
     silent_at : (k : Type4) (id : ℕ) → (k ≡ Ack) ⊎ (k ≡ Rst) → sent_back (replied_at_once (empty_reply k id false)) ≡ []
     silent_at Con id (inl e) = absurd (cc)
@@ -156,42 +156,42 @@ treated_settled from bytes now h act back s t none is (settled (is_no_request n 
     silent : (n m : CoapMessage) → n ≡ m → (m.kind ≡ Ack) ⊎ (m.kind ≡ Rst) → sent_back (replied_at_once (empty_reply n.kind n.id false)) ≡ []
     silent n m e kind = ap (λ (x : CoapMessage). sent_back (replied_at_once (empty_reply x.kind x.id false))) e ∙ silent_at m.kind m.id kind
 treated_settled from bytes now h act back s t none is (settled (duplicate m kept x met found e)) unasked =
-    is_duplicate m x met.spells met.request found none (is ∙ ap sent_back e) met.meets.1 met.same_watchers
+    is_duplicate m x met.spells met.request found none (is ∙ ap sent_back e) met.meets.1 met.same_observers
 treated_settled from bytes now h act back s t none is (settled (full m u met e same)) unasked =
     finds_full m met.spells met.request none (is ∙ ap sent_back e)
     (ap (λ (x : Server). x.exchanges) same ∙ (used_exchanges (request_type m.kind) u ∙ met.meets.1.1))
-    (ap (λ (x : Server). x.watchers) same ∙ (used_watchers (request_type m.kind) u ∙ met.same_watchers))
+    (ap (λ (x : Server). x.observers) same ∙ (used_observers (request_type m.kind) u ∙ met.same_observers))
 treated_settled from bytes now h act back s t none is (admitted m slot u met (replied r parts b why replies e)) unasked =
-    treated_at_once from bytes now act back s (with_parts parts u) u t m slot r b s.watchers met met.same_watchers refl replies refl (λ w. why_replied from now m act r u parts none why w) (is ∙ ap sent_back e)
+    treated_at_once from bytes now act back s (with_parts parts u) u t m slot r b s.observers met met.same_observers refl replies refl (λ w. why_replied from now m act r u parts none why w) (is ∙ ap sent_back e)
 treated_settled from bytes now h act back s t none is (admitted m slot u met (gives_links b faultless wants links get replies e)) unasked =
     treated_at_once from bytes now act back s (links_given from now m.token (observing_in m) (what_is_asked m) u) u t m slot
-    (links_reply (size_asked (observing_in m) (what_is_asked m)) u.links) b (watchers_with_links (observing_in m) from m.token s.watchers) met
-    (ap (watchers_with_links (observing_in m) from m.token) met.same_watchers) refl replies refl (λ w. of_links u.links links none w refl) (is ∙ ap sent_back e)
+    (links_reply (size_asked (observing_in m) (what_is_asked m)) u.links) b (observers_with_links (observing_in m) from m.token s.observers) met
+    (ap (observers_with_links (observing_in m) from m.token) met.same_observers) refl replies refl (λ w. of_links u.links links none w refl) (is ∙ ap sent_back e)
 treated_settled from bytes now h act back s t none is (admitted m slot u met (bad_option_ignored number fault non e same)) unasked =
     is_ignored m slot met.spells met.request (some_fault m _ fault) none (is ∙ ap sent_back e)
     (ap (λ (x : Server). x.exchanges.exchanges) same ∙ ap (λ (x : Table). x.exchanges) met.meets.1.2)
-    (ap (λ (x : Server). x.watchers) same ∙ met.same_watchers)
+    (ap (λ (x : Server). x.observers) same ∙ met.same_observers)
 treated_settled from bytes now h act back s t none is (admitted m slot u met (asks faultless wants apart e same)) unasked = absurd (unasked _ _ e)
 treated_settled from bytes now h act back s t none is (admitted m slot u met (asks_whole b place parts whole faultless wants apart adds there e same)) unasked = absurd (unasked _ _ e)
 
 -- a request that was asked, and answered
 treated_answered : (from : Endpoint) (bytes : List ℕ) (now : ℕ) (act : Option Acted) (back : List (List ℕ)) (s v u t : Server) (a : Acted) (m : CoapMessage) (slot : ℕ) (ask : PendingReply) (reply : List ℕ)
-    → IsMet from bytes now m (Fresh slot) s u → v.watchers ≡ u.watchers → v.exchanges ≡ u.exchanges → v.next_id ≡ u.next_id → head_in ask ≡ head_of m → ask.slot ≡ slot
+    → IsMet from bytes now m (Fresh slot) s u → v.observers ≡ u.observers → v.exchanges ≡ u.exchanges → v.next_id ≡ u.next_id → head_in ask ≡ head_of m → ask.slot ≡ slot
     → Answers ask a.outcome a.target reply v t
-    → ((observe : Option ℕ) → Watches (effect_of ask.observing a.outcome a.target) ask.from m.token s.watchers observe t.watchers
-    → IsReplied from now m act (observed observe (answer_reply ask.blocks a.outcome)) s.watchers t.watchers)
+    → ((observe : Option ℕ) → Watches (effect_of ask.observing a.outcome a.target) ask.from m.token s.observers observe t.observers
+    → IsReplied from now m act (observed observe (answer_reply ask.blocks a.outcome)) s.observers t.observers)
     → back ≡ reply ∷ [] → IsTreated from bytes now act back s t
-treated_answered from bytes now act back s v u t a m slot ask reply met watchers exchanges id head at answer why is =
+treated_answered from bytes now act back s v u t a m slot ask reply met observers exchanges id head at answer why is =
     let r : Reply = observed answer.observe (answer_reply ask.blocks a.outcome) in
-    let x : Server = ready ask a.outcome answer.watchers v in
+    let x : Server = ready ask a.outcome answer.observers v in
     let replies : Replies r (head_of m) slot reply x t =
     subst (λ (h : ReplyHead). Replies r h slot reply x t) head (subst (λ (k : ℕ). Replies r (head_in ask) k reply x t) at answer.replies) in
-    let after_is : t.watchers ≡ answer.watchers = ap (λ (y : Server). y.watchers) replies.after ∙ kept_watchers (request_type m.kind) slot reply x in
+    let after_is : t.observers ≡ answer.observers = ap (λ (y : Server). y.observers) replies.after ∙ kept_observers (request_type m.kind) slot reply x in
     let W : List ℕ → Watching → Watching → Type 0 = λ token old new. Watches (effect_of ask.observing a.outcome a.target) ask.from token old answer.observe new in
-    let watches : W m.token s.watchers t.watchers =
-    subst (W m.token s.watchers) (sym after_is)
-    (subst (λ (y : Watching). W m.token y answer.watchers) (watchers ∙ met.same_watchers)
-    (subst (λ (y : ReplyHead). W y.token v.watchers answer.watchers) head answer.watches)) in
+    let watches : W m.token s.observers t.observers =
+    subst (W m.token s.observers) (sym after_is)
+    (subst (λ (y : Watching). W m.token y answer.observers) (observers ∙ met.same_observers)
+    (subst (λ (y : ReplyHead). W y.token v.observers answer.observers) head answer.watches)) in
     is_answered m slot r reply met.spells met.request met.meets.1.1
     (why answer.observe watches)
     (replies.bytes_are ∙ ap (λ (n : ℕ). spelling (coap_reply r (head_of m) n)) (id ∙ met.same_id)) is
@@ -204,7 +204,7 @@ answered_ask : (from : Endpoint) (bytes : List ℕ) (now : ℕ) (act : Option Ac
     → Answers (pending_of from now m slot) a.outcome a.target reply v t → act ≡ Some a → back ≡ reply ∷ [] → IsTreated from bytes now act back s t
 answered_ask from bytes now act back s u v t a m slot reply met wants what code place same answer acted_is is =
     treated_answered from bytes now act back s v u t a m slot (pending_of from now m slot) reply met
-    (ap (λ (x : Server). x.watchers) same) (ap (λ (x : Server). x.exchanges) same) (ap (λ (x : Server). x.next_id) same) refl refl answer
+    (ap (λ (x : Server). x.observers) same) (ap (λ (x : Server). x.exchanges) same) (ap (λ (x : Server). x.next_id) same) refl refl answer
     (λ observe watches. acted a observe acted_is wants what code place watches refl) is
 
 answered_whole : (from : Endpoint) (bytes : List ℕ) (now : ℕ) (act : Option Acted) (back : List (List ℕ)) (s u v t : Server) (a : Acted) (m : CoapMessage) (slot : ℕ) (b : Block) (body reply : List ℕ) (parts : List Part)
@@ -212,7 +212,7 @@ answered_whole : (from : Endpoint) (bytes : List ℕ) (now : ℕ) (act : Option 
     → Answers (pending_joined from m slot b) a.outcome a.target reply v t → act ≡ Some a → back ≡ reply ∷ [] → IsTreated from bytes now act back s t
 answered_whole from bytes now act back s u v t a m slot b body reply parts met wants what code place same answer acted_is is =
     treated_answered from bytes now act back s v u t a m slot (pending_joined from m slot b) reply met
-    (ap (λ (x : Server). x.watchers) same) (ap (λ (x : Server). x.exchanges) same) (ap (λ (x : Server). x.next_id) same) refl refl answer
+    (ap (λ (x : Server). x.observers) same) (ap (λ (x : Server). x.exchanges) same) (ap (λ (x : Server). x.next_id) same) refl refl answer
     (λ observe watches. acted_on_whole a observe b body acted_is wants what code place watches refl) is
 
 treated_asked : (from : Endpoint) (bytes : List ℕ) (now : ℕ) (act : Option Acted) (back : List (List ℕ)) (s v t : Server) (a : Acted) (ask : PendingReply) (reply : List ℕ)

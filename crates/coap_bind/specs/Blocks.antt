@@ -14,13 +14,13 @@ use Rattle.coap_blocks.specs.Bodies.{Body, Content, longest_body, with_body}
 use Rattle.coap_blocks.specs.Paths.{largest_path, path_size}
 use Rattle.coap_blocks.specs.declared.added.Added.{Added}
 use Rattle.coap_blocks.specs.declared.added.Added.TheVariants as answer
-use Rattle.coap_opts.specs.Reading.{PlainAsk}
+use Rattle.coap_opts.specs.Reading.{AskSeen}
 use Rattle.coap_bind.specs.declared.blocks.BlockOption.{BlockOption}
 use Rattle.coap_bind.specs.declared.blocks.BlockOption.TheVariants as option
 use Rattle.coap_bind.specs.declared.blocks.BlockUse.{BlockUse}
 use Rattle.coap_bind.specs.declared.blocks.BlockUse.TheVariants as blocks
-use Rattle.coap_bind.specs.declared.blocks.Wanted.{Wanted}
-use Rattle.coap_bind.specs.declared.blocks.Wanted.TheVariants as wanted
+use Rattle.coap_bind.specs.declared.blocks.BlockWish.{BlockWish}
+use Rattle.coap_bind.specs.declared.blocks.BlockWish.TheVariants as wanted
 use Rattle.coap_bind.specs.declared.observing.Observing.{Observing}
 use Rattle.coap_bind.specs.declared.observing.Observing.TheVariants as observing
 use Rattle.coap_bind.specs.Writing.{Reply, word_reply, long_reply, text_format, whole_reply}
@@ -28,23 +28,23 @@ use Rattle.coap_bind.specs.Writing.{Reply, word_reply, long_reply, text_format, 
 -- ---- the wish of a request
 
 -- Block2 of a GET, which isn't read where the request is to register.
-abbrev pub block2_of : Observing → PlainAsk → Option Block
+abbrev pub block2_of : Observing → AskSeen → Option Block
 block2_of observing.Registers a = None
 block2_of observing.Unchanged a = a.block2
 block2_of observing.Deregisters a = a.block2
 
 -- A block after the first is one of a response that was given (section 2.4), and wants no act.
-abbrev pub wanted_by_get : Option Block → Wanted
+abbrev pub wanted_by_get : Option Block → BlockWish
 wanted_by_get None = wanted.Act
 wanted_by_get (Some b) = if b.number == 0 then wanted.Act else wanted.LaterBlock b
 
 -- A block of a request is joined to those before it (section 2.5).
-abbrev pub wanted_by_body : Option Block → Wanted
+abbrev pub wanted_by_body : Option Block → BlockWish
 wanted_by_body None = wanted.Act
 wanted_by_body (Some b) = wanted.Joining b
 
 -- The wish of a request of this code. Block2 is read of a GET alone, and Block1 of a PUT and a POST.
-abbrev pub wanted_of : ℕ → Observing → PlainAsk → Wanted
+abbrev pub wanted_of : ℕ → Observing → AskSeen → BlockWish
 wanted_of code o a =
     if code == GET then wanted_by_get (block2_of o a)
     else if code == POST || code == PUT then wanted_by_body a.block1
@@ -52,7 +52,7 @@ wanted_of code o a =
 
 -- The part that blocks have in the reply to an act that is asked for at a moment: the payload for a GET is given in
 -- blocks, of the size that it says.
-abbrev pub use_of : ℕ → ℕ → Observing → PlainAsk → BlockUse
+abbrev pub use_of : ℕ → ℕ → Observing → AskSeen → BlockUse
 use_of now code o a =
     if code == GET then blocks.Gives (record { path = a.request.path; szx = option_map (λ b. b.szx) (block2_of o a); moment = now })
     else blocks.Whole

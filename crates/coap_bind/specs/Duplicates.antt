@@ -30,7 +30,7 @@ OnlyConfirmableAreKept =
 -- The table of exchanges is at the moment of a datagram, and nothing else changed.
 pub record OnlyTimePassed (now : ℕ) (s t : Server) : Type 0 where
   pub exchanges : t.exchanges ≡ at_moment now s.exchanges
-  pub watchers : t.watchers ≡ s.watchers
+  pub observers : t.observers ≡ s.observers
   pub next_id : t.next_id ≡ s.next_id
   pub bodies : t.bodies ≡ s.bodies
   pub parts : t.parts ≡ s.parts
@@ -81,9 +81,9 @@ pub record WasRepliedTo (before : Server) (request : Arrival) (reply : List ℕ)
 -- which the request was replied to.
 abbrev pub OnlyTheFirstReplyIsRepeated : Type 0
 OnlyTheFirstReplyIsRepeated =
-    (capacity watchers : ℕ) (history : List Arrival) (u v : Server) (from : Endpoint) (bytes : List ℕ) (now : ℕ) (m : CoapMessage) (heard : Heard) (earlier : Arrival)
-    → DidFrom (start capacity watchers) history u → u.exchanges.moment ≤ now → Spells m bytes → is_request m ≡ true
+    (capacity observers : ℕ) (history : List Arrival) (u v : Server) (from : Endpoint) (bytes : List ℕ) (now : ℕ) (m : CoapMessage) (heard : Heard) (earlier : Arrival)
+    → DidFrom (start capacity observers) history u → u.exchanges.moment ≤ now → Spells m bytes → is_request m ≡ true
     → Contains (admitted_among capacity history) earlier → is_duplicate_of (arrival from now m) earlier ≡ true → Hears from bytes now heard u v
     → (heard ≡ ignored)
     ⊎ ((request : Arrival) × (reply : List ℕ) × (heard ≡ answered_at_once reply) × (is_duplicate_of (arrival from now m) request ≡ true)
-    × (request_type m.kind ≡ Confirmable) × (request.kind ≡ Confirmable) × WasRepliedTo (start capacity watchers) request reply u)
+    × (request_type m.kind ≡ Confirmable) × (request.kind ≡ Confirmable) × WasRepliedTo (start capacity observers) request reply u)

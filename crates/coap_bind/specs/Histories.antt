@@ -3,7 +3,7 @@ use Rattle.std.specs.Prelude.{◌≡◌, ◌≤◌, ℕ, true, List, [], ◌∷�
 use Rattle.coap_msg.specs.declared.endpoint.Endpoint.{Endpoint}
 use Rattle.coap_msg.specs.Grammar.{CoapMessage, Spells}
 use Rattle.coap_exchange.specs.Admission.{Arrival, admitted_among}
-use Rattle.coap_opts.specs.Reading.{PlainAsk}
+use Rattle.coap_opts.specs.Reading.{AskSeen}
 use Rattle.coap_bind.specs.declared.pending.PendingReply.{PendingReply}
 use Rattle.coap_bind.specs.declared.server.Server.{Server}
 use Rattle.coap_bind.specs.Server.{is_request, arrival, Heard, asked, Hears}
@@ -19,7 +19,7 @@ HearingGoesOn =
 -- The ask of a datagram is the request in it, which is admitted now.
 abbrev pub AskedIsAdmitted : Type 0
 AskedIsAdmitted =
-    (capacity : ℕ) (history : List Arrival) (s t : Server) (from : Endpoint) (bytes : List ℕ) (now : ℕ) (what : PlainAsk) (ask : PendingReply)
+    (capacity : ℕ) (history : List Arrival) (s t : Server) (from : Endpoint) (bytes : List ℕ) (now : ℕ) (what : AskSeen) (ask : PendingReply)
     → Did capacity history s → s.exchanges.moment ≤ now → Hears from bytes now (asked what ask) s t
     → (m : CoapMessage) × Spells m bytes × (is_request m ≡ true)
     × (admitted_among capacity (history ++ arrival from now m ∷ []) ≡ admitted_among capacity history ++ arrival from now m ∷ [])

@@ -8,7 +8,7 @@ use Rattle.coap_exchange.specs.Table.{Exchange, exchange_in, StandsFor}
 use Rattle.thing_ops.specs.declared.outcome.Outcome.{Outcome}
 use Rattle.thing_ops.specs.declared.outcome.Outcome.TheVariants.{Started}
 use Rattle.coap_observe.specs.declared.notice.Notice.{Notice}
-use Rattle.coap_opts.specs.Reading.{PlainAsk}
+use Rattle.coap_opts.specs.Reading.{AskSeen}
 use Rattle.coap_bind.specs.declared.pending.PendingReply.{PendingReply}
 use Rattle.coap_bind.specs.declared.server.Server.{Server}
 use Rattle.coap_bind.specs.Telling.{HasRoom, MayAnswer}
@@ -46,7 +46,7 @@ pub data DidFrom (before : Server) : List Arrival → Server → Type 0 where
 
 -- The course of a server in which n exchanges may live, from its beginning.
 abbrev pub Did : ℕ → List Arrival → Server → Type 0
-Did capacity history s = (watchers : ℕ) × DidFrom (start capacity watchers) history s
+Did capacity history s = (observers : ℕ) × DidFrom (start capacity observers) history s
 
 -- The exchanges of a server are those of the admitted requests that live (RFC 7252, section 4.5).
 abbrev pub ExchangesAreOfTheHistory : Type 0
@@ -60,7 +60,7 @@ DuplicatesAskNothing =
     (capacity : ℕ) (history : List Arrival) (s t : Server) (from : Endpoint) (bytes : List ℕ) (now : ℕ) (m : CoapMessage) (earlier : Arrival)
     → Did capacity history s → s.exchanges.moment ≤ now → Spells m bytes → Contains (admitted_among capacity history) earlier
     → is_duplicate_of (arrival from now m) earlier ≡ true
-    → (what : PlainAsk) (ask : PendingReply) → ¬ (Hears from bytes now (asked what ask) s t)
+    → (what : AskSeen) (ask : PendingReply) → ¬ (Hears from bytes now (asked what ask) s t)
 
 -- The place of a started action has at most four segments, each of at most 255 bytes (section 5.10), and its status at
 -- most 100 bytes.
@@ -71,7 +71,7 @@ HasShortPlace _ = Unit {0}
 -- The ask of a datagram may be answered at once.
 abbrev pub AsksAreOpen : Type 0
 AsksAreOpen =
-    (from : Endpoint) (bytes : List ℕ) (now : ℕ) (what : PlainAsk) (ask : PendingReply) (s t : Server) → Hears from bytes now (asked what ask) s t → IsOpen ask t
+    (from : Endpoint) (bytes : List ℕ) (now : ℕ) (what : AskSeen) (ask : PendingReply) (s t : Server) → Hears from bytes now (asked what ask) s t → IsOpen ask t
 
 -- A reply has at most 1,152 bytes (RFC 7252, section 4.6), with a tag and without, whatever the observers are, in
 -- blocks and whole, unless the place of a started action is long.

@@ -5,7 +5,7 @@ use Rattle.coap_msg.specs.declared.endpoint.Endpoint.{Endpoint}
 use Rattle.coap_blocks.specs.Bodies.{Body, Content, longest_body, with_body}
 use Rattle.coap_msg.specs.Blocks.{block_size}
 use Rattle.coap_observe.specs.Watching.{Watching, without_pair}
-use Rattle.coap_opts.specs.Reading.{PlainAsk}
+use Rattle.coap_opts.specs.Reading.{AskSeen}
 use Rattle.thing_ops.specs.Outcomes.{coap}
 use Rattle.thing_ops.specs.Routes.{has_form, the}
 use Rattle.coap_msg.specs.declared.constants.TheConstants.{METHOD_NOT_ALLOWED}
@@ -24,7 +24,7 @@ abbrev pub links_content : List ℕ → Content
 links_content text = record { code = coap 2 05; format = Some LINK_FORMAT; tag = None; bytes = text }
 
 -- the exponent of the size of a block that a GET asks for, if it asks for one
-abbrev pub size_asked : Observing → PlainAsk → Option ℕ
+abbrev pub size_asked : Observing → AskSeen → Option ℕ
 size_asked o a = option_map (λ b. b.szx) (block2_of o a)
 
 -- The reply to a GET that asks for a block of this size, or for none. A text that is too long for a body is refused.
@@ -39,10 +39,10 @@ method_reply = word_reply METHOD_NOT_ALLOWED (codes "method")
 
 -- The observers: to deregister ends an observation on whatever path (RFC 7641, section 3.6), and nothing here can be
 -- observed.
-abbrev pub watchers_with_links : Observing → Endpoint → List ℕ → Watching → Watching
-watchers_with_links observing.Unchanged from token w = w
-watchers_with_links observing.Registers from token w = w
-watchers_with_links observing.Deregisters from token w = without_pair from token w
+abbrev pub observers_with_links : Observing → Endpoint → List ℕ → Watching → Watching
+observers_with_links observing.Unchanged from token w = w
+observers_with_links observing.Registers from token w = w
+observers_with_links observing.Deregisters from token w = without_pair from token w
 
 -- the text is given in more than one block
 abbrev pub is_text_kept : Option ℕ → ℕ → Bool

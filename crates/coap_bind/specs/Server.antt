@@ -2,7 +2,7 @@
 -- effect of each datagram, each answer, each new value and each notification on them.
 --
 -- Its contents are `Server` of src/server.rt: the `exchanges` that live, with the replies that are kept
--- (coap_exchange/specs/Table.antt), the `watchers` (coap_observe/specs/Watching.antt), `next_id`, the message ID of the
+-- (coap_exchange/specs/Table.antt), the `observers` (coap_observe/specs/Watching.antt), `next_id`, the message ID of the
 -- next message that isn't an acknowledgement, the `bodies` of responses that are kept for their later blocks, and the
 -- `parts`, the bodies of requests as far as their blocks came (coap_blocks/specs); and `links`, the text of the links
 -- that it was given. The meaning of a request is in coap_opts/specs/Reading.antt, its wish for the observers in
@@ -37,24 +37,24 @@ use Rattle.coap_blocks.specs.declared.added.Added.{Added}
 use Rattle.coap_blocks.specs.declared.added.Added.TheVariants.{Complete}
 use Rattle.thing_ops.specs.declared.outcome.Outcome.{Outcome}
 use Rattle.thing_ops.specs.declared.outcome.Outcome.TheVariants.{Memory}
-use Rattle.coap_opts.specs.Reading.{PlainAsk, faults_of, asked as what_is_asked}
+use Rattle.coap_opts.specs.Reading.{AskSeen, faults_of, asked as what_is_asked}
 use Rattle.coap_opts.specs.declared.fault.AskFault.TheVariants as fault
 use Rattle.coap_bind.specs.declared.pending.PendingReply.{PendingReply}
 use Rattle.coap_bind.specs.declared.server.Server.{Server}
 use Rattle.coap_bind.specs.declared.blocks.BlockUse.{BlockUse}
 use Rattle.coap_bind.specs.declared.blocks.BlockUse.TheVariants as blocks
-use Rattle.coap_bind.specs.declared.blocks.Wanted.{Wanted}
-use Rattle.coap_bind.specs.declared.blocks.Wanted.TheVariants as wanted
+use Rattle.coap_bind.specs.declared.blocks.BlockWish.{BlockWish}
+use Rattle.coap_bind.specs.declared.blocks.BlockWish.TheVariants as wanted
 use Rattle.coap_bind.specs.declared.observing.Observing.{Observing}
 use Rattle.coap_bind.specs.Blocks.{wanted_of, use_of, answer_reply, bodies_after, block_reply, later_reply, added_reply}
-use Rattle.coap_bind.specs.Links.{is_links_path, size_asked, links_reply, method_reply, watchers_with_links, bodies_with_links}
+use Rattle.coap_bind.specs.Links.{is_links_path, size_asked, links_reply, method_reply, observers_with_links, bodies_with_links}
 use Rattle.coap_bind.specs.Observing.{observing_of, effect_of, Watches}
 use Rattle.coap_bind.specs.Writing.{Reply, full_reply, proxy_reply, option_reply, reply_of, observed, ReplyHead, head_of, head_in, coap_reply}
 
 -- A server to which nothing came yet, in which so many exchanges may live and so many observers may be. Its message IDs
 -- begin at 0 and not at a random number (docs/DECISIONS.md, "CoAP").
 abbrev pub start : ℕ → ℕ → Server
-start exchanges watchers = record { exchanges = empty_table exchanges; watchers = none_watch watchers; next_id = 0; bodies = []; parts = []; links = [] }
+start exchanges observers = record { exchanges = empty_table exchanges; observers = none_watch observers; next_id = 0; bodies = []; parts = []; links = [] }
 
 -- The treatment of a datagram.
 pub data Heard : Type 0 where
@@ -63,7 +63,7 @@ pub data Heard : Type 0 where
   -- these bytes are sent back at once
   answered_at_once : List ℕ → Heard
   -- this is asked for, and has to be answered
-  asked : PlainAsk → PendingReply → Heard
+  asked : AskSeen → PendingReply → Heard
 
 -- ---- replies
 
@@ -88,8 +88,8 @@ pub record Replies (r : Reply) (head : ReplyHead) (slot : ℕ) (bytes : List ℕ
   pub after : t ≡ with_kept head.kind slot bytes (with_id_used head.kind s)
 
 -- the server with these observers
-abbrev pub with_watchers : Watching → Server → Server
-with_watchers w s = record s { watchers = w }
+abbrev pub with_observers : Watching → Server → Server
+with_observers w s = record s { observers = w }
 
 -- the server with these bodies, and with these parts
 abbrev pub with_bodies : List Body → Server → Server
@@ -107,28 +107,28 @@ with_links text s = record s { links = text }
 -- registration.
 pub record Answers (ask : PendingReply) (o : Outcome) (target : Option ℕ) (bytes : List ℕ) (s t : Server) : Type 0 where
   pub observe : Option ℕ
-  pub watchers : Watching
-  pub watches : Watches (effect_of ask.observing o target) ask.from ask.token s.watchers observe watchers
+  pub observers : Watching
+  pub watches : Watches (effect_of ask.observing o target) ask.from ask.token s.observers observe observers
   pub replies : Replies (observed observe (answer_reply ask.blocks o)) (head_in ask) ask.slot bytes
-      (with_bodies (bodies_after ask.blocks ask.from o s.bodies) (with_watchers watchers s)) t
+      (with_bodies (bodies_after ask.blocks ask.from o s.bodies) (with_observers observers s)) t
 
 -- ---- notifications (RFC 7641)
 
 -- the server after a target got a new value
 abbrev pub with_emitted : ℕ → Server → Server
-with_emitted target s = with_watchers (with_emission target s.watchers) s
+with_emitted target s = with_observers (with_emission target s.observers) s
 
 -- the server after a notification that has the next message ID where it is a message that wasn't sent before
-abbrev pub with_notice_sent : Option Notice → Server → Server
-with_notice_sent None s = s
-with_notice_sent (Some n) s = if n.fresh then with_next_id s else s
+abbrev pub with_notification_sent : Option Notice → Server → Server
+with_notification_sent None s = s
+with_notification_sent (Some n) s = if n.fresh then with_next_id s else s
 
 -- The notification to be sent at a moment, one at most.
 pub record SendsNext (now : ℕ) (n : Option Notice) (s t : Server) : Type 0 where
-  pub watchers : Watching
-  pub notifies : Notifies now s.next_id s.watchers.list n watchers.list
-  pub capacity : watchers.capacity ≡ s.watchers.capacity
-  pub after : t ≡ with_notice_sent n (with_watchers watchers s)
+  pub observers : Watching
+  pub notifies : Notifies now s.next_id s.observers.list n observers.list
+  pub capacity : observers.capacity ≡ s.observers.capacity
+  pub after : t ≡ with_notification_sent n (with_observers observers s)
 
 -- ---- messages that are no requests
 
@@ -146,7 +146,7 @@ told_by from m w = if m.code == EMPTY then told_by_empty from m.kind m.id w else
 
 -- the server after such a message
 abbrev pub with_report : Endpoint → CoapMessage → Server → Server
-with_report from m s = with_watchers (told_by from m s.watchers) s
+with_report from m s = with_observers (told_by from m s.observers) s
 
 -- ---- datagrams that aren't admitted
 
@@ -181,7 +181,7 @@ pub record IsMet (from : Endpoint) (bytes : List ℕ) (now : ℕ) (m : CoapMessa
   pub spells : Spells m bytes
   pub request : is_request m ≡ true
   pub meets : Meets (at_moment now s.exchanges) (arrival from now m) met t.exchanges
-  pub same_watchers : t.watchers ≡ s.watchers
+  pub same_observers : t.observers ≡ s.observers
   pub same_id : t.next_id ≡ s.next_id
   pub same_bodies : t.bodies ≡ s.bodies
   pub same_parts : t.parts ≡ s.parts
@@ -212,7 +212,7 @@ pub data Settles (from : Endpoint) (bytes : List ℕ) (now : ℕ) (heard : Heard
 abbrev pub observing_in : CoapMessage → Observing
 observing_in m = observing_of m.code (what_is_asked m).observe
 
-abbrev pub wanted_in : CoapMessage → Wanted
+abbrev pub wanted_in : CoapMessage → BlockWish
 wanted_in m = wanted_of m.code (observing_in m) (what_is_asked m)
 
 -- the pending reply to a request that came from an endpoint and got this slot, where blocks have this part in the reply
@@ -236,7 +236,7 @@ abbrev pub pending_joined : Endpoint → CoapMessage → ℕ → Block → Pendi
 pending_joined from m slot b = pending_with (blocks.Joined b) from m slot
 
 -- a request with this body
-abbrev pub with_whole_body : List ℕ → PlainAsk → PlainAsk
+abbrev pub with_whole_body : List ℕ → AskSeen → AskSeen
 with_whole_body bytes a = record a { request = record a.request { body = bytes } }
 
 -- a block of a request, as the parts have it
@@ -259,9 +259,9 @@ asks_links m = is_links_path (what_is_asked m).request.path
 -- The server once the links are given to a request that came from an endpoint at a moment, with this token, wants this
 -- of the observers and asks this: its sender is deregistered where it wants that, and a text that is given in blocks is
 -- kept.
-abbrev pub links_given : Endpoint → ℕ → List ℕ → Observing → PlainAsk → Server → Server
+abbrev pub links_given : Endpoint → ℕ → List ℕ → Observing → AskSeen → Server → Server
 links_given from now token o a s =
-    with_bodies (bodies_with_links from a.request.path now (size_asked o a) s.links s.bodies) (with_watchers (watchers_with_links o from token s.watchers) s)
+    with_bodies (bodies_with_links from a.request.path now (size_asked o a) s.links s.bodies) (with_observers (observers_with_links o from token s.observers) s)
 
 -- The cases in which a request that was admitted is answered at once, with the reply and the parts then: by the first
 -- fault of its options, or out of memory, which is free to come where there is none; because it wants no act; or

@@ -17,8 +17,8 @@ use Rattle.coap_blocks.specs.declared.added.Added.TheVariants.{Complete}
 use Rattle.thing_ops.specs.declared.outcome.Outcome.TheVariants.{Memory}
 use Rattle.coap_opts.specs.declared.fault.AskFault.{AskFault}
 use Rattle.coap_opts.specs.declared.fault.AskFault.TheVariants as fault
-use Rattle.coap_opts.specs.Reading.{PlainAsk, faults_of, asked as what_is_asked}
-use Rattle.coap_bind.specs.declared.blocks.Wanted.TheVariants.{Joining}
+use Rattle.coap_opts.specs.Reading.{AskSeen, faults_of, asked as what_is_asked}
+use Rattle.coap_bind.specs.declared.blocks.BlockWish.TheVariants.{Joining}
 use Rattle.coap_bind.specs.declared.next.CoapNext.{CoapNext}
 use Rattle.coap_bind.specs.declared.next.CoapNext.TheVariants.{Nothing, Send, Ask}
 use Rattle.coap_bind.specs.declared.pending.PendingReply.{PendingReply}
@@ -44,7 +44,7 @@ SettlesOrAdmits from bytes now (Ok admitted) old new s t =
     IsMet from bytes now (message_of admitted.0) (Fresh admitted.1) s t × IsAwaited admitted.1 t.exchanges × (new ≡ old)
 
 -- a request that was admitted, and its meaning
-pub record IsReadOf (pending : PendingReply) (code : ℕ) (what : PlainAsk) (m : CoapMessage) : Type 0 where
+pub record IsReadOf (pending : PendingReply) (code : ℕ) (what : AskSeen) (m : CoapMessage) : Type 0 where
   pub head : head_in pending ≡ head_of m
   pub observing : pending.observing ≡ observing_in m
   pub code_is : code ≡ m.code
@@ -52,7 +52,7 @@ pub record IsReadOf (pending : PendingReply) (code : ℕ) (what : PlainAsk) (m :
   pub faultless : faults_of m.options ≡ []
 
 -- A block of a request that was admitted was added to the parts, with this outcome.
-pub record IsAdded (pending : PendingReply) (now : ℕ) (what : PlainAsk) (m : CoapMessage) (b : Block) (added : Added) (s t : Server) : Type 0 where
+pub record IsAdded (pending : PendingReply) (now : ℕ) (what : AskSeen) (m : CoapMessage) (b : Block) (added : Added) (s t : Server) : Type 0 where
   pub head : head_in pending ≡ head_of m
   pub observing : pending.observing ≡ observing_in m
   pub what_is : what ≡ what_is_asked m
@@ -80,7 +80,7 @@ abbrev pub ReadsAs : Endpoint → ℕ → CoapMessage → ℕ → CoapNext → L
 ReadsAs from now m slot next old new s t = (heard : Heard) × Reads from now m slot heard s t × Tells heard next old new
 
 -- A request for the links is answered: a GET with their text, and any other verb with a refusal.
-pub data AnswersLinks (pending : PendingReply) (code now : ℕ) (what : PlainAsk) (n : ℕ) (old new : List ℕ) (s t : Server) : Type 0 where
+pub data AnswersLinks (pending : PendingReply) (code now : ℕ) (what : AskSeen) (n : ℕ) (old new : List ℕ) (s t : Server) : Type 0 where
   gives : code ≡ GET
       → RepliesAs (links_reply (size_asked pending.observing what) s.links) pending n old new
       (links_given pending.from now pending.token pending.observing what s) t

@@ -9,7 +9,7 @@ use Rattle.coap_exchange.specs.Table.{IsAwaited}
 use Rattle.coap_exchange.specs.declared.met.Met.TheVariants.{Fresh}
 use Rattle.thing_ops.specs.declared.outcome.Outcome.{Outcome}
 use Rattle.coap_observe.specs.Watching.{Watching}
-use Rattle.coap_opts.specs.PlainAsk.{plain_ask}
+use Rattle.coap_opts.specs.AskSeen.{ask_seen}
 use Rattle.coap_bind.specs.declared.next.CoapNext.{CoapNext}
 use Rattle.coap_bind.specs.declared.next.CoapNext.TheVariants.{Nothing, Send, Ask}
 use Rattle.coap_bind.specs.declared.pending.PendingReply.{PendingReply}
@@ -23,7 +23,7 @@ use Rattle.coap_bind.specs.Server.{Heard, ignored, answered_at_once, asked, Repl
 abbrev pub Tells : Heard → CoapNext → List ℕ → List ℕ → Type 0
 Tells heard Nothing old new = (heard ≡ ignored) × (new ≡ old)
 Tells heard (Send n) old new = (bytes : List ℕ) × (heard ≡ answered_at_once bytes) × IsWritten bytes n old new
-Tells heard (Ask ask ticket) old new = (heard ≡ asked (plain_ask ask) ticket) × (new ≡ old)
+Tells heard (Ask ask ticket) old new = (heard ≡ asked (ask_seen ask) ticket) × (new ≡ old)
 
 -- A datagram has this effect, as the result says.
 pub record HearsAs (from : Endpoint) (bytes : List ℕ) (now : ℕ) (next : CoapNext) (old new : List ℕ) (s t : Server) : Type 0 where
@@ -59,7 +59,7 @@ pub record AnswersAs (ask : PendingReply) (o : Outcome) (target : Option ℕ) (n
 -- The answer has room, whichever sequence number it says, if it says one.
 abbrev pub HasRoom : PendingReply → Outcome → Option ℕ → Server → Type 0
 HasRoom ask o target s =
-    (observe : Option ℕ) (watchers : Watching) → Watches (effect_of ask.observing o target) ask.from ask.token s.watchers observe watchers
+    (observe : Option ℕ) (observers : Watching) → Watches (effect_of ask.observing o target) ask.from ask.token s.observers observe observers
     → length (spelling (coap_reply (observed observe (answer_reply ask.blocks o)) (head_in ask) s.next_id)) ≤ LONGEST_MESSAGE
 
 -- a request may be answered: the exchange in the slot of the ticket waits for its reply, the token is one (RFC 7252,

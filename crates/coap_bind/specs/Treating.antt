@@ -13,21 +13,21 @@ use Rattle.thing_ops.specs.declared.outcome.Outcome.{Outcome}
 use Rattle.thing_ops.specs.declared.outcome.Outcome.TheVariants.{Memory}
 use Rattle.thing_ops.specs.Outcomes.{HasCode}
 use Rattle.coap_observe.specs.Watching.{Watching}
-use Rattle.coap_opts.specs.Reading.{PlainAsk, faults_of, asked as what_is_asked}
+use Rattle.coap_opts.specs.Reading.{AskSeen, faults_of, asked as what_is_asked}
 use Rattle.coap_bind.specs.declared.pending.PendingReply.{PendingReply}
 use Rattle.coap_bind.specs.declared.server.Server.{Server}
 use Rattle.coap_bind.specs.Writing.{Reply, full_reply, reply_of, observed, head_of, coap_reply}
 use Rattle.coap_bind.specs.declared.blocks.BlockUse.TheVariants.{Joined}
-use Rattle.coap_bind.specs.declared.blocks.Wanted.TheVariants.{Act, Joining}
+use Rattle.coap_bind.specs.declared.blocks.BlockWish.TheVariants.{Act, Joining}
 use Rattle.coap_bind.specs.Blocks.{answer_reply, use_of}
-use Rattle.coap_bind.specs.Links.{size_asked, links_reply, method_reply, watchers_with_links}
+use Rattle.coap_bind.specs.Links.{size_asked, links_reply, method_reply, observers_with_links}
 use Rattle.coap_bind.specs.Observing.{effect_of, Watches}
 use Rattle.coap_bind.specs.Server.{Heard, ignored, answered_at_once, asked, told_by, is_request, duplicate_reply, arrival, asks_links, observing_in, wanted_in, with_whole_body, Hears, Answers}
 use Rattle.coap_bind.specs.Laws.{HasShortPlace}
 
 -- An act: the request, its outcome, and the target that the request was for, if it was for one.
 pub record Acted : Type 0 where
-  pub what : PlainAsk
+  pub what : AskSeen
   pub outcome : Outcome
   pub target : Option ℕ
 
@@ -50,7 +50,7 @@ pub data IsReplied (from : Endpoint) (now : ℕ) (m : CoapMessage) (act : Option
   faulty : faults_of m.options ≢ [] → act ≡ None → new ≡ old → IsReplied from now m act r old new
   memory : r ≡ reply_of Memory → act ≡ None → new ≡ old → IsReplied from now m act r old new
   of_blocks : wanted_in m ≢ Act → act ≡ None → new ≡ old → IsReplied from now m act r old new
-  of_links : (text : List ℕ) → asks_links m ≡ true → act ≡ None → new ≡ watchers_with_links (observing_in m) from m.token old
+  of_links : (text : List ℕ) → asks_links m ≡ true → act ≡ None → new ≡ observers_with_links (observing_in m) from m.token old
       → r ≡ links_reply (size_asked (observing_in m) (what_is_asked m)) text → IsReplied from now m act r old new
   no_method : asks_links m ≡ true → act ≡ None → new ≡ old → r ≡ method_reply → IsReplied from now m act r old new
   acted : (a : Acted) (observe : Option ℕ) → act ≡ Some a → wanted_in m ≡ Act → a.what ≡ what_is_asked m → HasCode a.outcome → HasShortPlace a.outcome
@@ -81,23 +81,23 @@ IsTold from bytes old new = (new ≡ old) ⊎ ((m : CoapMessage) × Spells m byt
 pub data IsTreated (from : Endpoint) (bytes : List ℕ) (now : ℕ) (act : Option Acted) (back : List (List ℕ)) (s t : Server) : Type 0 where
   no_request : ((m : CoapMessage) → Spells m bytes → is_request m ≡ true → ⊥)
       → ((m : CoapMessage) → Spells m bytes → (m.kind ≡ Ack) ⊎ (m.kind ≡ Rst) → back ≡ []) → act ≡ None
-      → t.exchanges ≡ s.exchanges → IsTold from bytes s.watchers t.watchers → IsTreated from bytes now act back s t
+      → t.exchanges ≡ s.exchanges → IsTold from bytes s.observers t.observers → IsTreated from bytes now act back s t
   is_duplicate : (m : CoapMessage) (e : Exchange) → Spells m bytes → is_request m ≡ true
       → duplicated_exchange (arrival from now m) (at_moment now s.exchanges) ≡ Some e → act ≡ None
       → back ≡ sent_back (duplicate_reply (request_type m.kind) e.reply)
-      → t.exchanges ≡ at_moment now s.exchanges → t.watchers ≡ s.watchers → IsTreated from bytes now act back s t
+      → t.exchanges ≡ at_moment now s.exchanges → t.observers ≡ s.observers → IsTreated from bytes now act back s t
   finds_full : (m : CoapMessage) → Spells m bytes → is_request m ≡ true → act ≡ None
       → back ≡ spelling (coap_reply full_reply (head_of m) s.next_id) ∷ []
-      → t.exchanges ≡ at_moment now s.exchanges → t.watchers ≡ s.watchers → IsTreated from bytes now act back s t
+      → t.exchanges ≡ at_moment now s.exchanges → t.observers ≡ s.observers → IsTreated from bytes now act back s t
   is_answered : (m : CoapMessage) (slot : ℕ) (r : Reply) (reply : List ℕ) → Spells m bytes → is_request m ≡ true
-      → exchange_in slot (at_moment now s.exchanges) ≡ None → IsReplied from now m act r s.watchers t.watchers
+      → exchange_in slot (at_moment now s.exchanges) ≡ None → IsReplied from now m act r s.observers t.observers
       → reply ≡ spelling (coap_reply r (head_of m) s.next_id) → back ≡ reply ∷ []
       → t.exchanges.exchanges ≡ (at_moment now s.exchanges).exchanges
       ++ record { arrival = arrival from now m; slot = slot; reply = kept_for (request_type m.kind) reply } ∷ []
       → IsTreated from bytes now act back s t
   is_ignored : (m : CoapMessage) (slot : ℕ) → Spells m bytes → is_request m ≡ true → faults_of m.options ≢ [] → act ≡ None → back ≡ []
       → t.exchanges.exchanges ≡ (at_moment now s.exchanges).exchanges ++ record { arrival = arrival from now m; slot = slot; reply = None } ∷ []
-      → t.watchers ≡ s.watchers → IsTreated from bytes now act back s t
+      → t.observers ≡ s.observers → IsTreated from bytes now act back s t
 
 -- These are all cases.
 abbrev pub AllAreTreated : Type 0

@@ -29,7 +29,7 @@ impl Server {
     ghost use Rattle.coap_bind.specs.Blocks.{IsUse, answer_reply, bodies_after};
     ghost use Rattle.coap_bind.specs.declared.blocks.BlockUse.TheVariants as blocks;
     ghost use Rattle.coap_bind.specs.Writing.{word_reply, observed, head_in, coap_reply};
-    ghost use Rattle.coap_bind.specs.Server.{with_next_id, with_id_used, with_kept, with_watchers, with_bodies};
+    ghost use Rattle.coap_bind.specs.Server.{with_next_id, with_id_used, with_kept, with_observers, with_bodies};
     ghost use Rattle.coap_msg.specs.Written.{IsWritten};
     ghost use Rattle.coap_bind.specs.Telling.{RepliesAs, AnswersAs, HasRoom};
     ghost use Rattle.coap_bind.specs.Settling.{RefusesOption};
@@ -60,18 +60,18 @@ impl Server {
     /// Has this effect on the observers, for the sender of a request, and gives the sequence number that the response
     /// says, if it says one.
     pub fn watch(&mut self, pending: &PendingReply, effect: Effect) -> Option<u32>
-        ensures watches { Watches effect pending.now.from pending.now.token self.old.watchers result self.new.watchers }
-        ensures same { self.new ≡ with_watchers self.new.watchers self.old }
+        ensures watches { Watches effect pending.now.from pending.now.token self.old.observers result self.new.observers }
+        ensures same { self.new ≡ with_observers self.new.observers self.old }
     {
         let token = pending.token.as_bytes();
         match effect {
             Effect::Nothing => None,
             Effect::Cancels => {
-                let _found = self.watchers.cancel(pending.from, token);
+                let _found = self.observers.cancel(pending.from, token);
                 None
             }
             Effect::Registers(target) => {
-                sequence_of(self.watchers.register(pending.from, token, target))
+                sequence_of(self.observers.register(pending.from, token, target))
             }
         }
     }

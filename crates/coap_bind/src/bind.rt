@@ -48,22 +48,22 @@ impl CoapBind {
     ghost use Rattle.coap_blocks.specs.Parts.{longest_request};
     ghost use Rattle.coap_bind.specs.Telling.{HearsAs, SettlesAs, IsAdmitted, TicketIsOpen, HasRoom, AnswersAs};
 
-    /// A server in which `exchanges` exchanges may live, with at most `watchers` observers. The memory of both is taken
+    /// A server in which `exchanges` exchanges may live, with at most `observers` observers. The memory of both is taken
     /// here, and that of bodies in blocks: 16 of responses and 8 of requests.
-    pub fn new(alloc: Global, exchanges: u32, watchers: u32) -> Result<CoapBind, NoMemory>
+    pub fn new(alloc: Global, exchanges: u32, observers: u32) -> Result<CoapBind, NoMemory>
         requires least_exchanges { 16 ≤ exchanges }
         requires most_exchanges { exchanges ≤ 65536 }
-        requires least_watchers { 1 ≤ watchers }
-        requires most_watchers { watchers ≤ 1024 }
-        ensures { IfOk result (λ c. c ≡ start exchanges watchers) }
+        requires least_observers { 1 ≤ observers }
+        requires most_observers { observers ≤ 1024 }
+        ensures { IfOk result (λ c. c ≡ start exchanges observers) }
     {
         let exchanges = Exchanges::new(alloc, exchanges)?;
-        let watchers = Watchers::new(alloc, watchers)?;
+        let observers = Watchers::new(alloc, observers)?;
         Ok(CoapBind {
             alloc,
             server: Server {
                 exchanges,
-                watchers,
+                observers,
                 next_id: 0,
                 bodies: Bodies::new(alloc)?,
                 parts: Parts::new(alloc)?,
@@ -105,7 +105,7 @@ impl CoapBind {
         ensures ticket { TicketIsOpen result self.new }
         ensures moment { self.new.exchanges.moment ≤ now }
     {
-        match self.server.settle(from, bytes, now, out) {
+        match self.server.judge_datagram(from, bytes, now, out) {
             Err(None) => CoapNext::Nothing,
             Err(Some(size)) => CoapNext::Send(size),
             Ok((message, slot)) => {
@@ -165,7 +165,7 @@ impl CoapBind {
     pub fn emit(&mut self, target: u32)
         ensures { self.new ≡ with_emitted target self.old }
     {
-        self.server.watchers.emit(target);
+        self.server.observers.emit(target);
     }
 
     /// Gives the notification to be sent now, one at most, which goes to `put_notice` with the last value of its
@@ -175,10 +175,10 @@ impl CoapBind {
         ensures sends { SendsNext now result self.old self.new }
         ensures bounds { IfSome result IsSendable }
         ensures exchanges { self.new.exchanges ≡ self.old.exchanges }
-        ensures less { IfSome result (λ n. unsent now self.new.watchers.list < unsent now self.old.watchers.list) }
+        ensures less { IfSome result (λ n. unsent now self.new.observers.list < unsent now self.old.observers.list) }
     {
         // A match and not `?`, since that says its facts of a `ControlFlow`.
-        match self.server.watchers.next_send(now, self.server.next_id) {
+        match self.server.observers.next_send(now, self.server.next_id) {
             Some(notice) => {
                 if notice.fresh {
                     self.server.use_next_id();

@@ -1,7 +1,7 @@
 //! The wish of a request for blocks, and the part that these have in its reply (RFC 7959).
 
 ghost use Rattle.std.specs.Prelude.{◌≡◌};
-ghost use Rattle.coap_opts.specs.PlainAsk.{plain_ask};
+ghost use Rattle.coap_opts.specs.AskSeen.{ask_seen};
 ghost use Rattle.coap_bind.specs.Blocks.{block2_of, wanted_of};
 ghost use Rattle.coap_bind.specs.Links.{size_asked};
 
@@ -12,7 +12,7 @@ use thing_ops::Segments;
 
 /// The wish of a request, by the blocks that it names.
 #[derive(Clone, Copy, Debug, PartialEq, Eq)]
-pub enum Wanted {
+pub enum BlockWish {
     /// To be acted on as it is.
     Act,
     /// A block of a response that was given, after its first.
@@ -53,31 +53,31 @@ pub enum BlockOption {
 }
 
 /// The wish of a request of this code that has this wish for the observers.
-pub fn wanted_of(code: Code, observing: Observing, ask: &CoapAsk<'_>) -> Wanted
-    ensures { result ≡ wanted_of code observing (plain_ask ask.now) }
+pub fn wanted_of(code: Code, observing: Observing, ask: &CoapAsk<'_>) -> BlockWish
+    ensures { result ≡ wanted_of code observing (ask_seen ask.now) }
 {
     match code {
         GET => match block2_of(observing, ask) {
             Some(block) => {
                 if block.number == 0 {
-                    Wanted::Act
+                    BlockWish::Act
                 } else {
-                    Wanted::LaterBlock(block)
+                    BlockWish::LaterBlock(block)
                 }
             }
-            None => Wanted::Act,
+            None => BlockWish::Act,
         },
         POST | PUT => match ask.block1 {
-            Some(block) => Wanted::Joining(block),
-            None => Wanted::Act,
+            Some(block) => BlockWish::Joining(block),
+            None => BlockWish::Act,
         },
-        _ => Wanted::Act,
+        _ => BlockWish::Act,
     }
 }
 
 /// Block2 of a GET, where it is read.
 pub fn block2_of(observing: Observing, ask: &CoapAsk<'_>) -> Option<Block>
-    ensures { result ≡ block2_of observing (plain_ask ask.now) }
+    ensures { result ≡ block2_of observing (ask_seen ask.now) }
 {
     match observing {
         // Not read, since notifications aren't given in blocks.
@@ -88,7 +88,7 @@ pub fn block2_of(observing: Observing, ask: &CoapAsk<'_>) -> Option<Block>
 
 /// The exponent of the size of a block that a GET asks for, if it asks for one.
 pub fn size_asked(observing: Observing, ask: &CoapAsk<'_>) -> Option<u8>
-    ensures { result ≡ size_asked observing (plain_ask ask.now) }
+    ensures { result ≡ size_asked observing (ask_seen ask.now) }
 {
     match block2_of(observing, ask) {
         Some(block) => Some(block.szx),

@@ -46,7 +46,7 @@ impl Server {
         ensures { AnswersBlock pending.now path.now block added result out.old out.new self.old self.new }
     {
         match added {
-            Added::Continue => Err(self.go_on(pending, block, out)),
+            Added::Continue => Err(self.reply_continue(pending, block, out)),
             Added::Complete(place) => {
                 if is_links_path(path) {
                     return Err(self.refuse_whole(pending, place, out));
@@ -64,7 +64,7 @@ impl Server {
     }
 
     /// Answers a block of a request after which others are to come.
-    fn go_on(
+    fn reply_continue(
         &mut self,
         pending: &PendingReply,
         block: Block,
@@ -103,13 +103,13 @@ impl Server {
 }
 
 ghost use Rattle.std.specs.Prelude.{◌≡◌};
-ghost use Rattle.thing_ops.specs.Requests.{plain_request};
-ghost use Rattle.coap_opts.specs.PlainAsk.{plain_ask};
+ghost use Rattle.thing_ops.specs.Requests.{request_seen};
+ghost use Rattle.coap_opts.specs.AskSeen.{ask_seen};
 ghost use Rattle.coap_bind.specs.Server.{with_whole_body};
 
 /// The same ask with this body.
 pub fn with_body<'a>(ask: CoapAsk<'a>, body: &'a [u8]) -> CoapAsk<'a>
-    ensures { plain_ask result ≡ with_whole_body body.now (plain_ask ask.entry) }
+    ensures { ask_seen result ≡ with_whole_body body.now (ask_seen ask.entry) }
 {
     let CoapAsk {
         request,
@@ -128,7 +128,7 @@ pub fn with_body<'a>(ask: CoapAsk<'a>, body: &'a [u8]) -> CoapAsk<'a>
 
 /// A request with this body.
 fn with_body_of<'a>(request: Request<'a>, body: &'a [u8]) -> Request<'a>
-    ensures { plain_request result ≡ record (plain_request request.entry) { body = body.now } }
+    ensures { request_seen result ≡ record (request_seen request.entry) { body = body.now } }
 {
     Request {
         verb: request.verb,

@@ -24,10 +24,10 @@ impl Server {
     ghost use Rattle.std.specs.List.{remove};
     ghost use Rattle.coap_exchange.specs.Table.{IsAwaited};
     ghost use Rattle.coap_blocks.specs.Paths.{largest_path, path_size};
-    ghost use Rattle.coap_opts.specs.PlainAsk.{plain_ask};
+    ghost use Rattle.coap_opts.specs.AskSeen.{ask_seen};
     ghost use Rattle.coap_opts.specs.Reading.{HasBlocks};
-    ghost use Rattle.coap_bind.specs.Links.{bodies_with_links, links_reply, method_reply, size_asked, watchers_with_links};
-    ghost use Rattle.coap_bind.specs.Server.{links_given, with_bodies, with_parts, with_watchers};
+    ghost use Rattle.coap_bind.specs.Links.{bodies_with_links, links_reply, method_reply, size_asked, observers_with_links};
+    ghost use Rattle.coap_bind.specs.Server.{links_given, with_bodies, with_parts, with_observers};
     ghost use Rattle.coap_bind.specs.Settling.{AnswersLinks};
     ghost use Rattle.coap_bind.specs.Telling.{RepliesAs};
 
@@ -41,10 +41,10 @@ impl Server {
         out: &mut [u8; LONGEST_MESSAGE],
     ) -> usize
         requires token { length pending.now.token ≤ 8 }
-        requires blocks { HasBlocks (plain_ask ask.now) }
+        requires blocks { HasBlocks (ask_seen ask.now) }
         requires path { path_size ask.now.request.path ≤ largest_path }
         requires slot { IsAwaited pending.now.slot self.old.exchanges }
-        ensures { AnswersLinks pending.now code now (plain_ask ask.now) result out.old out.new self.old self.new }
+        ensures { AnswersLinks pending.now code now (ask_seen ask.now) result out.old out.new self.old self.new }
     {
         if code == GET {
             self.give_links(pending, ask, now, out)
@@ -78,11 +78,11 @@ impl Server {
         out: &mut [u8; LONGEST_MESSAGE],
     ) -> usize
         requires token { length pending.now.token ≤ 8 }
-        requires blocks { HasBlocks (plain_ask ask.now) }
+        requires blocks { HasBlocks (ask_seen ask.now) }
         requires path { path_size ask.now.request.path ≤ largest_path }
         requires slot { IsAwaited pending.now.slot self.old.exchanges }
-        ensures { RepliesAs (links_reply (size_asked pending.now.observing (plain_ask ask.now)) self.old.links) pending.now
-            result out.old out.new (links_given pending.now.from now pending.now.token pending.now.observing (plain_ask ask.now) self.old) self.new }
+        ensures { RepliesAs (links_reply (size_asked pending.now.observing (ask_seen ask.now)) self.old.links) pending.now
+            result out.old out.new (links_given pending.now.from now pending.now.token pending.now.observing (ask_seen ask.now) self.old) self.new }
     {
         self.note_links(pending, ask, now);
         self.reply_links(pending, size_asked(pending.observing, ask), out)
@@ -90,9 +90,9 @@ impl Server {
 
     /// Has the effect of a GET for the links on the observers and on the bodies that are kept.
     fn note_links(&mut self, pending: &PendingReply, ask: &CoapAsk<'_>, now: u64)
-        requires blocks { HasBlocks (plain_ask ask.now) }
+        requires blocks { HasBlocks (ask_seen ask.now) }
         requires path { path_size ask.now.request.path ≤ largest_path }
-        ensures { self.new ≡ links_given pending.now.from now pending.now.token pending.now.observing (plain_ask ask.now) self.old }
+        ensures { self.new ≡ links_given pending.now.from now pending.now.token pending.now.observing (ask_seen ask.now) self.old }
     {
         let observing = pending.observing;
         self.end_observation(observing, pending.from, pending.token.as_bytes());
@@ -102,14 +102,14 @@ impl Server {
 
     /// Ends the observation of an endpoint with this token, where its request wants that.
     fn end_observation(&mut self, observing: Observing, from: Endpoint, token: &[u8])
-        ensures { self.new ≡ with_watchers (watchers_with_links observing from token.now self.old.watchers) self.old }
+        ensures { self.new ≡ with_observers (observers_with_links observing from token.now self.old.observers) self.old }
     {
         match observing {
             Observing::Unchanged => {}
             // Nothing to do, since the links can't be observed.
             Observing::Registers => {}
             Observing::Deregisters => {
-                let _found = self.watchers.cancel(from, token);
+                let _found = self.observers.cancel(from, token);
             }
         }
     }

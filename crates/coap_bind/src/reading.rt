@@ -1,6 +1,6 @@
 //! The treatment of a request that was admitted: it is asked, or answered at once.
 
-use crate::blocks::{BlockUse, Giving, Wanted, size_asked, wanted_of};
+use crate::blocks::{BlockUse, BlockWish, Giving, size_asked, wanted_of};
 use crate::joining::with_body;
 use crate::links::is_links_path;
 use crate::next::{CoapNext, Ticket};
@@ -27,17 +27,17 @@ impl Server {
     ghost use Rattle.coap_blocks.specs.Bodies.{body_for};
     ghost use Rattle.coap_blocks.specs.Parts.{longest_request};
     ghost use Rattle.coap_blocks.specs.Paths.{largest_path, path_size};
-    ghost use Rattle.coap_opts.specs.PlainAsk.{plain_ask};
+    ghost use Rattle.coap_opts.specs.AskSeen.{ask_seen};
     ghost use Rattle.coap_opts.specs.Reading.{HasBlocks, asked as what_is_asked};
     ghost use Rattle.thing_ops.specs.declared.outcome.Outcome.TheVariants.{Memory};
-    ghost use Rattle.coap_bind.specs.declared.blocks.Wanted.TheVariants.{Act};
+    ghost use Rattle.coap_bind.specs.declared.blocks.BlockWish.TheVariants.{Act};
     ghost use Rattle.coap_bind.specs.Blocks.{later_reply};
     ghost use Rattle.coap_bind.specs.Server.{is_request, wanted_in};
     ghost use Rattle.coap_bind.specs.Settling.{IsReadOf, ReadsAs, RefusesFault};
     ghost use Rattle.coap_bind.specs.Telling.{RepliesAs, TicketIsOpen};
     ghost use Rattle.coap_bind.specs.Writing.{reply_of, head_of, head_in};
 
-    /// Reads a request that was admitted, and treats it as it wants.
+    /// Reads a request that was admitted, and treats it wants.
     pub fn read<'a>(
         &mut self,
         alloc: Global,
@@ -70,12 +70,12 @@ impl Server {
             ..pending
         };
         match wanted_of(message.code, observing, &ask) {
-            Wanted::Act => self.ask(alloc, pending, received, ask, out),
-            Wanted::LaterBlock(block) => {
+            BlockWish::Act => self.ask(alloc, pending, received, ask, out),
+            BlockWish::LaterBlock(block) => {
                 let path = &ask.request.path;
                 CoapNext::Send(self.give_later(&pending, path, block, now, out))
             }
-            Wanted::Joining(block) => {
+            BlockWish::Joining(block) => {
                 let path = &ask.request.path;
                 let body = ask.request.body;
                 let added = self
@@ -140,10 +140,10 @@ impl Server {
         out: &mut [u8; LONGEST_MESSAGE],
     ) -> CoapNext<'a>
         requires token { length pending.token ≤ 8 }
-        requires blocks { HasBlocks (plain_ask ask) }
+        requires blocks { HasBlocks (ask_seen ask) }
         requires path { path_size ask.request.path ≤ largest_path }
         requires slot { IsAwaited pending.slot self.old.exchanges }
-        ensures ok { (m : CoapMessage) → IsReadOf pending received.entry.message.now.code (plain_ask ask.entry) m → wanted_in m ≡ Act →
+        ensures ok { (m : CoapMessage) → IsReadOf pending received.entry.message.now.code (ask_seen ask.entry) m → wanted_in m ≡ Act →
             ReadsAs pending.from received.entry.moment m pending.slot result out.old out.new self.old self.new }
         ensures open { TicketIsOpen result self.new }
     {

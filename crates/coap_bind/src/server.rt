@@ -21,7 +21,7 @@ pub struct Server {
     /// The exchanges that live, with the replies that are kept.
     pub exchanges: Exchanges,
     /// The observers, each with its target.
-    pub watchers: Watchers,
+    pub observers: Watchers,
     /// The message ID of the next message that isn't an acknowledgement.
     pub next_id: u16,
     /// The bodies of responses that are kept for their later blocks.
@@ -38,13 +38,13 @@ impl Server {
     ghost use Rattle.coap_msg.specs.Grammar.{spelling};
     ghost use Rattle.coap_msg.specs.Requests.{request_type};
     ghost use Rattle.coap_exchange.specs.Table.{Exchange, exchange_in, HasReply, IsAwaited};
-    ghost use Rattle.coap_bind.specs.Server.{is_request, duplicate_reply, with_id_used, with_watchers, told_by_empty, with_report};
+    ghost use Rattle.coap_bind.specs.Server.{is_request, duplicate_reply, with_id_used, with_observers, told_by_empty, with_report};
     ghost use Rattle.coap_bind.specs.Writing.{full_reply, head_of, coap_reply};
     ghost use Rattle.coap_bind.specs.Settling.{TellsDone, SettlesOrAdmits};
 
     /// Judges a datagram as far as that takes no memory, without an allocator, so that its signature says so: gives the
     /// request that was admitted and its slot, or else the number of bytes to send, if any.
-    pub fn settle<'a>(
+    pub fn judge_datagram<'a>(
         &mut self,
         from: Endpoint,
         bytes: &'a [u8],
@@ -110,14 +110,14 @@ impl Server {
     /// Takes the answer to a notification from an empty message of this type and ID, if it is one. One that answers
     /// nothing is ignored, as RFC 7252 (section 4.2) asks.
     fn report_empty(&mut self, from: Endpoint, kind: Type4, id: u16)
-        ensures { self.new ≡ with_watchers (told_by_empty from kind id self.old.watchers) self.old }
+        ensures { self.new ≡ with_observers (told_by_empty from kind id self.old.observers) self.old }
     {
         match kind {
             Type4::Ack => {
-                let _found = self.watchers.acked(from, id);
+                let _found = self.observers.acked(from, id);
             }
             Type4::Rst => {
-                let _found = self.watchers.reset(from, id);
+                let _found = self.observers.reset(from, id);
             }
             Type4::Con => {}
             Type4::Non => {}

@@ -89,7 +89,7 @@ impl Exchanges {
         ensures kept { (slot : ℕ) → result ≡ Met.Repeat (Some slot) → HasReply slot self.new }
     {
         let kind = RequestType::of(kind);
-        self.go_on(now);
+        self.advance_to(now);
         if let Some(kept) = self.duplicated(from, id) {
             return Met::Repeat(kept);
         }
@@ -123,7 +123,7 @@ impl Exchanges {
 
     /// Moves on to the moment `now`, and gives up the exchanges that don't live then. It is a function of its own, because
     /// the type's invariant has to hold again before the next call.
-    fn go_on(&mut self, now: u64)
+    fn advance_to(&mut self, now: u64)
         requires { self.old.moment ≤ now }
         ensures { self.new ≡ at_moment now self.old }
     {

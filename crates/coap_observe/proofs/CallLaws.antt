@@ -5,11 +5,11 @@ use Rattle.std.specs.Str.{bytes_eq}
 use Rattle.std.proofs.lemmas.Bool.{cases_Bool}
 use Rattle.coap_msg.specs.declared.endpoint.Endpoint.{Endpoint}
 use Rattle.coap_msg.specs.Endpoints.{is_same_endpoint}
-use Rattle.coap_observe.specs.declared.watcher.Watcher.{Watcher}
+use Rattle.coap_observe.specs.declared.observer.Observer.{Observer}
 use Rattle.coap_observe.specs.declared.notice.Registered.TheVariants.{New, Replaced, Full}
 use Rattle.coap_observe.specs.declared.notice.Notice.{Notice}
 use Rattle.coap_observe.specs.Sending.{Sent}
-use Rattle.coap_observe.specs.Watching.{Watching, is_from, is_pair, is_busy, is_sent_as, is_of_target, is_due, is_free, newcomer, replaced, marked, acknowledged, resent, renewed, notified, where_so, with_reset, hopeless, GivesUp, nobody, endpoint, IsNotice, Sends, same, newer, first, nothing, Notifies}
+use Rattle.coap_observe.specs.Watching.{Watching, is_from, is_pair, is_busy, is_sent_as, is_of_target, is_due, is_sendable, newcomer, replaced, marked, acknowledged, resent, renewed, notified, where_so, with_reset, hopeless, GivesUp, nobody, endpoint, IsNotification, Sends, same, newer, first, nothing, Notifies}
 use Rattle.coap_observe.specs.Laws.{Goes, registers, cancels, emits, acknowledges, rejects, sends, Any, Comes, begins, goes_on, count, IsAbsent, is_for}
 use Rattle.coap_observe.proofs.Counts.{count_map, count_filter, count_push, count_push_other, none_counted, count_first, count_first_other, any_filter, any_without, any_map, any_first, any_push, found_fails, none_passes, found_passes, gone_once}
 use Rattle.coap_msg.proofs.SameEndpoints.{both, same_endpoint, itself}
@@ -17,14 +17,14 @@ use Rattle.coap_observe.proofs.Tokens.{same_token, own_token}
 
 -- ---- a change of those that pass a test
 
-where_weaker : (q p : Watcher → Bool) (f : Watcher → Watcher) (w : Watcher) → (q (f w) ≡ true → q w ≡ true) → q (where_so p f w) ≡ true → q w ≡ true
+where_weaker : (q p : Observer → Bool) (f : Observer → Observer) (w : Observer) → (q (f w) ≡ true → q w ≡ true) → q (where_so p f w) ≡ true → q w ≡ true
 where_weaker q p f w h = at (p w) h
   where
     at : (t : Bool) → (q (f w) ≡ true → q w ≡ true) → q (cond t (f w) w) ≡ true → q w ≡ true
     at true k = k
     at false k = λ e. e
 
-pub where_same : (q p : Watcher → Bool) (f : Watcher → Watcher) (w : Watcher) → q (f w) ≡ q w → q (where_so p f w) ≡ q w
+pub where_same : (q p : Observer → Bool) (f : Observer → Observer) (w : Observer) → q (f w) ≡ q w → q (where_so p f w) ≡ q w
 where_same q p f w h = at (p w) h
   where
     at : (t : Bool) → q (f w) ≡ q w → q (cond t (f w) w) ≡ q w
@@ -32,7 +32,7 @@ where_same q p f w h = at (p w) h
     at false k = refl
 
 -- nothing unacknowledged is of no endpoint
-not_busy : (from : Endpoint) (w : Watcher) → (false && is_same_endpoint from w.from) ≡ true → is_busy from w ≡ true
+not_busy : (from : Endpoint) (w : Observer) → (false && is_same_endpoint from w.from) ≡ true → is_busy from w ≡ true
 not_busy from w e = absurd (cc)
 
 -- a notification is still there where it is sent again
@@ -40,25 +40,25 @@ some_kept : (g : Sent → Sent) (o : Option Sent) → is_some (option_map g o) �
 some_kept g None = refl
 some_kept g (Some s) = refl
 
-still_busy : (g : Sent → Sent) (from : Endpoint) (w : Watcher) → (is_some (option_map g w.notification) && is_same_endpoint from w.from) ≡ true
+still_busy : (g : Sent → Sent) (from : Endpoint) (w : Observer) → (is_some (option_map g w.notification) && is_same_endpoint from w.from) ≡ true
     → is_busy from w ≡ true
 still_busy g from w e = subst (λ (t : Bool). (t && is_same_endpoint from w.from) ≡ true) (some_kept g w.notification) e
 
 -- ---- endpoints that are given up
 
-pub fewer_after : (q : Watcher → Bool) (now : ℕ) (ws us : List Watcher) → GivesUp now ws us → count q us ≤ count q ws
-fewer_after q now _ _ (nobody ws us none is) = subst (λ (vs : List Watcher). count q vs ≤ count q ws) (sym is) (omega arith)
+pub fewer_after : (q : Observer → Bool) (now : ℕ) (ws us : List Observer) → GivesUp now ws us → count q us ≤ count q ws
+fewer_after q now _ _ (nobody ws us none is) = subst (λ (vs : List Observer). count q vs ≤ count q ws) (sym is) (omega arith)
 fewer_after q now _ _ (endpoint from ws us is rest) =
     let less = fewer_after q now (filter (λ w. not (is_from from w)) ws) us rest in
     let gone = count_filter q (λ w. not (is_from from w)) ws in
     omega (arith, less, gone)
 
-pub absent_after : (q : Watcher → Bool) (now : ℕ) (ws us : List Watcher) → GivesUp now ws us → list_any q ws ≡ false → list_any q us ≡ false
-absent_after q now _ _ (nobody ws us none is) absent = subst (λ (vs : List Watcher). list_any q vs ≡ false) (sym is) absent
+pub absent_after : (q : Observer → Bool) (now : ℕ) (ws us : List Observer) → GivesUp now ws us → list_any q ws ≡ false → list_any q us ≡ false
+absent_after q now _ _ (nobody ws us none is) absent = subst (λ (vs : List Observer). list_any q vs ≡ false) (sym is) absent
 absent_after q now _ _ (endpoint from ws us is rest) absent =
     absent_after q now (filter (λ w. not (is_from from w)) ws) us rest (any_filter q (λ w. not (is_from from w)) ws absent)
 
-pub given_up_is_gone : (now : ℕ) (from : Endpoint) (ws us : List Watcher) → hopeless now ws ≡ Some from → GivesUp now ws us → list_any (is_from from) us ≡ false
+pub given_up_is_gone : (now : ℕ) (from : Endpoint) (ws us : List Observer) → hopeless now ws ≡ Some from → GivesUp now ws us → list_any (is_from from) us ≡ false
 given_up_is_gone now from _ _ is (nobody ws us none e) = absurd (cc)
 given_up_is_gone now from _ _ is (endpoint other ws us e rest) =
     let one : Some other ≡ Some from = sym e ∙ is in
@@ -68,25 +68,25 @@ given_up_is_gone now from _ _ is (endpoint other ws us e rest) =
 
 -- ---- at most one notification to an endpoint is unacknowledged
 
-busy_sends : (now id : ℕ) (ws us : List Watcher) (n : Option Notice) → Sends now id ws n us → (from : Endpoint) → count (is_busy from) ws ≤ 1
+busy_sends : (now id : ℕ) (ws us : List Observer) (n : Option Notice) → Sends now id ws n us → (from : Endpoint) → count (is_busy from) ws ≤ 1
     → count (is_busy from) us ≤ 1
 busy_sends now id ws _ _ (same w s m us found plain was notice is) from most =
     let le = count_first_other (is_busy from) (is_due now) (resent now) ws w found (still_busy _ from w) in
-    subst (λ (vs : List Watcher). count (is_busy from) vs ≤ 1) (sym is) (omega (arith, le, most))
+    subst (λ (vs : List Observer). count (is_busy from) vs ≤ 1) (sym is) (omega (arith, le, most))
 busy_sends now id ws _ _ (newer w m us found marked_one notice is) from most =
     let le = count_first_other (is_busy from) (is_due now) (renewed now id) ws w found (still_busy _ from w) in
-    subst (λ (vs : List Watcher). count (is_busy from) vs ≤ 1) (sym is) (omega (arith, le, most))
+    subst (λ (vs : List Observer). count (is_busy from) vs ≤ 1) (sym is) (omega (arith, le, most))
 busy_sends now id ws _ _ (first w m us none_due found notice is) from most =
-    subst (λ (vs : List Watcher). count (is_busy from) vs ≤ 1) (sym is)
+    subst (λ (vs : List Observer). count (is_busy from) vs ≤ 1) (sym is)
     (elim (cases_Bool (is_same_endpoint from w.from)) [
       | inl to_it ↦
           let end = same_endpoint from w.from to_it in
-          let free = both w.is_marked (not (list_any (is_busy w.from) ws)) (found_passes (is_free ws) ws w found) in
+          let free = both w.is_marked (not (list_any (is_busy w.from) ws)) (found_passes (is_sendable ws) ws w found) in
           let idle = none_counted (is_busy from) ws (subst (λ (e : Endpoint). list_any (is_busy e) ws ≡ false) (sym end) (not_true (list_any (is_busy w.from) ws) free.1)) in
-          let le = count_first (is_busy from) (is_free ws) (notified now id) ws in
+          let le = count_first (is_busy from) (is_sendable ws) (notified now id) ws in
           omega (arith, le, idle)
       | inr other ↦
-          let le = count_first_other (is_busy from) (is_free ws) (notified now id) ws w found (λ e. absurd (other_end (is_same_endpoint from w.from) other e)) in
+          let le = count_first_other (is_busy from) (is_sendable ws) (notified now id) ws w found (λ e. absurd (other_end (is_same_endpoint from w.from) other e)) in
           omega (arith, le, most)
     ])
   where
@@ -98,7 +98,7 @@ busy_sends now id ws _ _ (first w m us none_due found notice is) from most =
     other_end true e h = absurd (cc)
     other_end false e h = absurd (cc)
 busy_sends now id ws _ _ (nothing us none_due none_free is) from most =
-    subst (λ (vs : List Watcher). count (is_busy from) vs ≤ 1) (sym is) most
+    subst (λ (vs : List Observer). count (is_busy from) vs ≤ 1) (sym is) most
 
 pub busy_goes : (t u : Watching) → Goes Any t u → (from : Endpoint) → count (is_busy from) t.list ≤ 1 → count (is_busy from) u.list ≤ 1
 busy_goes t u (registers f token target (Replaced n) may reg) from most =
@@ -133,19 +133,19 @@ one_busy capacity u (goes_on t _ before goes) from = busy_goes t u goes from (on
 
 -- ---- at most one observer has an endpoint and a token
 
-pair_sends : (now id : ℕ) (ws us : List Watcher) (n : Option Notice) → Sends now id ws n us → (from : Endpoint) (token : List ℕ)
+pair_sends : (now id : ℕ) (ws us : List Observer) (n : Option Notice) → Sends now id ws n us → (from : Endpoint) (token : List ℕ)
     → count (is_pair from token) us ≤ count (is_pair from token) ws
 pair_sends now id ws _ _ (same w s m us found plain was notice is) from token =
-    subst (λ (vs : List Watcher). count (is_pair from token) vs ≤ count (is_pair from token) ws) (sym is)
+    subst (λ (vs : List Observer). count (is_pair from token) vs ≤ count (is_pair from token) ws) (sym is)
     (count_first_other (is_pair from token) (is_due now) (resent now) ws w found (λ e. e))
 pair_sends now id ws _ _ (newer w m us found marked_one notice is) from token =
-    subst (λ (vs : List Watcher). count (is_pair from token) vs ≤ count (is_pair from token) ws) (sym is)
+    subst (λ (vs : List Observer). count (is_pair from token) vs ≤ count (is_pair from token) ws) (sym is)
     (count_first_other (is_pair from token) (is_due now) (renewed now id) ws w found (λ e. e))
 pair_sends now id ws _ _ (first w m us none_due found notice is) from token =
-    subst (λ (vs : List Watcher). count (is_pair from token) vs ≤ count (is_pair from token) ws) (sym is)
-    (count_first_other (is_pair from token) (is_free ws) (notified now id) ws w found (λ e. e))
+    subst (λ (vs : List Observer). count (is_pair from token) vs ≤ count (is_pair from token) ws) (sym is)
+    (count_first_other (is_pair from token) (is_sendable ws) (notified now id) ws w found (λ e. e))
 pair_sends now id ws _ _ (nothing us none_due none_free is) from token =
-    subst (λ (vs : List Watcher). count (is_pair from token) vs ≤ count (is_pair from token) ws) (sym is) (omega arith)
+    subst (λ (vs : List Observer). count (is_pair from token) vs ≤ count (is_pair from token) ws) (sym is) (omega arith)
 
 new_pair : (t : Watching) (f from : Endpoint) (name token : List ℕ) (target : ℕ) → find (is_pair f name) t.list ≡ None
     → count (is_pair from token) t.list ≤ 1 → count (is_pair from token) (t.list ++ newcomer f name target ∷ []) ≤ 1
@@ -200,27 +200,27 @@ one_pair capacity u (goes_on t _ before goes) from token = pair_goes t u goes fr
 
 -- ---- one that isn't registered
 
-pub own_pair : (w : Watcher) → is_pair w.from w.token w ≡ true
+pub own_pair : (w : Observer) → is_pair w.from w.token w ≡ true
 own_pair w = ap (λ (b : Bool). b && bytes_eq w.token w.token) (itself w.from) ∙ own_token w.token
 
-pub forgotten : (capacity : ℕ) (t : Watching) (from : Endpoint) (id : ℕ) (w : Watcher) → Comes capacity t → find (is_sent_as from id) t.list ≡ Some w
+pub forgotten : (capacity : ℕ) (t : Watching) (from : Endpoint) (id : ℕ) (w : Observer) → Comes capacity t → find (is_sent_as from id) t.list ≡ Some w
     → IsAbsent w.from w.token (with_reset from id t)
 forgotten capacity t from id w comes found =
     gone_once (is_pair w.from w.token) (is_sent_as from id) t.list w found (own_pair w) (one_pair capacity t comes w.from w.token)
 
-absent_sends : (now id : ℕ) (ws us : List Watcher) (n : Option Notice) → Sends now id ws n us → (from : Endpoint) (token : List ℕ)
+absent_sends : (now id : ℕ) (ws us : List Observer) (n : Option Notice) → Sends now id ws n us → (from : Endpoint) (token : List ℕ)
     → list_any (is_pair from token) ws ≡ false → list_any (is_pair from token) us ≡ false
 absent_sends now id ws _ _ (same w s m us found plain was notice is) from token absent =
-    subst (λ (vs : List Watcher). list_any (is_pair from token) vs ≡ false) (sym is)
+    subst (λ (vs : List Observer). list_any (is_pair from token) vs ≡ false) (sym is)
     (any_first (is_pair from token) (is_due now) (resent now) (λ v. refl) ws ∙ absent)
 absent_sends now id ws _ _ (newer w m us found marked_one notice is) from token absent =
-    subst (λ (vs : List Watcher). list_any (is_pair from token) vs ≡ false) (sym is)
+    subst (λ (vs : List Observer). list_any (is_pair from token) vs ≡ false) (sym is)
     (any_first (is_pair from token) (is_due now) (renewed now id) (λ v. refl) ws ∙ absent)
 absent_sends now id ws _ _ (first w m us none_due found notice is) from token absent =
-    subst (λ (vs : List Watcher). list_any (is_pair from token) vs ≡ false) (sym is)
-    (any_first (is_pair from token) (is_free ws) (notified now id) (λ v. refl) ws ∙ absent)
+    subst (λ (vs : List Observer). list_any (is_pair from token) vs ≡ false) (sym is)
+    (any_first (is_pair from token) (is_sendable ws) (notified now id) (λ v. refl) ws ∙ absent)
 absent_sends now id ws _ _ (nothing us none_due none_free is) from token absent =
-    subst (λ (vs : List Watcher). list_any (is_pair from token) vs ≡ false) (sym is) absent
+    subst (λ (vs : List Observer). list_any (is_pair from token) vs ≡ false) (sym is) absent
 
 pub stays_absent : (from : Endpoint) (token : List ℕ) (t u : Watching) → IsAbsent from token t
     → Goes (λ end name. (is_same_endpoint from end && bytes_eq token name) ≡ false) t u → IsAbsent from token u
@@ -247,13 +247,13 @@ stays_absent from token t u absent (sends now id n capacity notifies) =
     absent_sends now id notifies.left u.list n notifies.sends from token
     (absent_after (is_pair from token) now t.list notifies.left notifies.gives_up absent)
 
-not_for : (from : Endpoint) (token : List ℕ) (w : Watcher) (id sequence : ℕ) (fresh : Bool) (n : Notice) → IsNotice w id sequence fresh n
+not_for : (from : Endpoint) (token : List ℕ) (w : Observer) (id sequence : ℕ) (fresh : Bool) (n : Notice) → IsNotification w id sequence fresh n
     → is_pair from token w ≡ false → is_for from token n ≡ false
 not_for from token w id sequence fresh n notice other =
     ap (λ (e : Endpoint). is_same_endpoint from e && bytes_eq token (take n.token_length n.token)) notice.to
     ∙ ap (λ (x : List ℕ). is_same_endpoint from w.from && bytes_eq token x) notice.token ∙ other
 
-pub unsent : (now id : ℕ) (ws us : List Watcher) (o : Option Notice) → Sends now id ws o us → (from : Endpoint) (token : List ℕ) (n : Notice)
+pub unsent : (now id : ℕ) (ws us : List Observer) (o : Option Notice) → Sends now id ws o us → (from : Endpoint) (token : List ℕ) (n : Notice)
     → list_any (is_pair from token) ws ≡ false → o ≡ Some n → is_for from token n ≡ false
 unsent now id ws _ _ (same w s m us found plain was notice is) from token n absent e =
     let it : m ≡ n = (cc) in
@@ -266,10 +266,10 @@ unsent now id ws _ _ (newer w m us found marked_one notice is) from token n abse
 unsent now id ws _ _ (first w m us none_due found notice is) from token n absent e =
     let it : m ≡ n = (cc) in
     subst (λ (x : Notice). is_for from token x ≡ false) it
-    (not_for from token w id _ true m notice (found_fails (is_pair from token) (is_free ws) ws w found absent))
+    (not_for from token w id _ true m notice (found_fails (is_pair from token) (is_sendable ws) ws w found absent))
 unsent now id ws _ _ (nothing us none_due none_free is) from token n absent e = absurd (cc)
 
-pub nothing_for : (from : Endpoint) (token : List ℕ) (t : Watching) (now id : ℕ) (n : Notice) (us : List Watcher) → IsAbsent from token t
+pub nothing_for : (from : Endpoint) (token : List ℕ) (t : Watching) (now id : ℕ) (n : Notice) (us : List Observer) → IsAbsent from token t
     → Notifies now id t.list (Some n) us → is_for from token n ≡ false
 nothing_for from token t now id n us absent notifies =
     unsent now id notifies.left us (Some n) notifies.sends from token n

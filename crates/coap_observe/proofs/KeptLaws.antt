@@ -3,14 +3,14 @@ use Rattle.std.proofs.Common.{◌≡◌, ◌≢◌, ◌+◌, ◌≤◌, ◌<◌,
 use Rattle.std.proofs.lemmas.Bool.Decides.{eqb_tells}
 use Rattle.std.proofs.lemmas.List.{get_or-set_same, get_or-set_other, length-set, length-replicate}
 use Rattle.slot_lists.specs.Lists.{Lists, list_at, is_among, without, empty_lists}
-use Rattle.coap_observe.specs.declared.watcher.Watcher.{Watcher}
+use Rattle.coap_observe.specs.declared.observer.Observer.{Observer}
 use Rattle.coap_observe.specs.Buckets.{target_bucket, endpoint_bucket}
-use Rattle.coap_observe.specs.Kept.{watcher_at, target_bucket_at, endpoint_bucket_at, times_in, once_below, AreDealt, used_slots, free_slots, AreKept, pushed_at, without_at}
+use Rattle.coap_observe.specs.Kept.{observer_at, target_bucket_at, endpoint_bucket_at, times_in, once_below, AreDealt, used_slots, free_slots, AreKept, pushed_at, without_at}
 use Rattle.coap_observe.proofs.SlotLaws.{once_is_below, once_at_most, times_push, among_counted, same_slot, other_slot, times_without_other, times_without_same, length-without, popped_in_none, undealt, dealt_once, dealt_there, dealt_push, dealt_pop, dealt_same, zero_either}
 
 -- ---- where a slot is
 
-pub used_place : (n : ℕ) (ws : List Watcher) (o t e : Lists) (slot : ℕ) → AreKept n ws o t e → is_among slot (used_slots o) ≡ true
+pub used_place : (n : ℕ) (ws : List Observer) (o t e : Lists) (slot : ℕ) → AreKept n ws o t e → is_among slot (used_slots o) ≡ true
     → (slot < n) × (times_in slot (used_slots o) ≡ 1) × (times_in slot (free_slots o) ≡ 0)
 used_place n ws o t e slot kept has =
     let counted : 1 ≤ times_in slot (used_slots o) = among_counted slot (used_slots o) has in
@@ -19,7 +19,7 @@ used_place n ws o t e slot kept has =
     let not_free : times_in slot (free_slots o) ≡ 0 = omega (arith, kept.slots slot, once_at_most slot n) in
     (below, once, not_free)
 
-pub free_place : (n : ℕ) (ws : List Watcher) (o t e : Lists) (slot : ℕ) → AreKept n ws o t e → is_among slot (free_slots o) ≡ true
+pub free_place : (n : ℕ) (ws : List Observer) (o t e : Lists) (slot : ℕ) → AreKept n ws o t e → is_among slot (free_slots o) ≡ true
     → (slot < n) × (times_in slot (used_slots o) ≡ 0) × (times_in slot (free_slots o) ≡ 1)
 free_place n ws o t e slot kept has =
     let counted : 1 ≤ times_in slot (free_slots o) = among_counted slot (free_slots o) has in
@@ -66,31 +66,31 @@ pushed_others slot xs s other =
 
 -- ---- the content of a slot
 
-pub watcher_stays : (ws : List Watcher) (slot s : ℕ) (v : Watcher) → s ≢ slot → watcher_at (set ws slot v) s ≡ watcher_at ws s
-watcher_stays ws slot s v other = get_or-set_other ws slot s v _ other
+pub observer_stays : (ws : List Observer) (slot s : ℕ) (v : Observer) → s ≢ slot → observer_at (set ws slot v) s ≡ observer_at ws s
+observer_stays ws slot s v other = get_or-set_other ws slot s v _ other
 
-pub watcher_is : (ws : List Watcher) (slot : ℕ) (v : Watcher) → slot < length ws → watcher_at (set ws slot v) slot ≡ v
-watcher_is ws slot v below = get_or-set_same ws slot v _ below
+pub observer_is : (ws : List Observer) (slot : ℕ) (v : Observer) → slot < length ws → observer_at (set ws slot v) slot ≡ v
+observer_is ws slot v below = get_or-set_same ws slot v _ below
 
 -- the parts that a change leaves as they were
-pub stays_of : {X : Type 0} (part : Watcher → X) (ws : List Watcher) (slot : ℕ) (v : Watcher) → slot < length ws → part v ≡ part (watcher_at ws slot)
-    → (s : ℕ) → part (watcher_at (set ws slot v) s) ≡ part (watcher_at ws s)
+pub stays_of : {X : Type 0} (part : Observer → X) (ws : List Observer) (slot : ℕ) (v : Observer) → slot < length ws → part v ≡ part (observer_at ws slot)
+    → (s : ℕ) → part (observer_at (set ws slot v) s) ≡ part (observer_at ws s)
 stays_of {X} part ws slot v below same s = elim (eqb_tells s slot) [
-  | inl w ↦ subst (λ (z : ℕ). part (watcher_at (set ws slot v) z) ≡ part (watcher_at ws z)) (sym w.1) (ap part (watcher_is ws slot v below) ∙ same)
-  | inr w ↦ ap part (watcher_stays ws slot s v w.1)
+  | inl w ↦ subst (λ (z : ℕ). part (observer_at (set ws slot v) z) ≡ part (observer_at ws z)) (sym w.1) (ap part (observer_is ws slot v below) ∙ same)
+  | inr w ↦ ap part (observer_stays ws slot s v w.1)
 ]
 
 -- ---- an observer that is added
 
-pub kept_added : (n : ℕ) (ws : List Watcher) (o t e : Lists) (slot : ℕ) (v : Watcher) → AreKept n ws o t e → is_among slot (free_slots o) ≡ true
+pub kept_added : (n : ℕ) (ws : List Observer) (o t e : Lists) (slot : ℕ) (v : Observer) → AreKept n ws o t e → is_among slot (free_slots o) ≡ true
     → AreKept n (set ws slot v) (pushed_at 0 slot (without_at 1 slot o)) (pushed_at (target_bucket n v.target) slot t) (pushed_at (endpoint_bucket n v.from) slot e)
 kept_added n ws o t e slot v kept has =
     let place = free_place n ws o t e slot kept has in
-    let below : slot < length ws = omega (arith, kept.watchers_count, place.0) in
+    let below : slot < length ws = omega (arith, kept.observers_count, place.0) in
     let two : 1 < length o.lists = omega (arith, kept.order_count) in
     let used : used_slots (pushed_at 0 slot (without_at 1 slot o)) ≡ used_slots o ++ slot ∷ [] = moved_there 0 1 slot o (omega arith) (omega arith) in
     let free : free_slots (pushed_at 0 slot (without_at 1 slot o)) ≡ without slot (free_slots o) = moved_away 0 1 slot o (omega arith) two in
-    let here : watcher_at (set ws slot v) slot ≡ v = watcher_is ws slot v below in
+    let here : observer_at (set ws slot v) slot ≡ v = observer_is ws slot v below in
     let once : times_in slot (used_slots o ++ slot ∷ []) ≡ 1 = pushed_once slot (used_slots o) place.1 in
     record {
       slots = λ s.
@@ -106,15 +106,15 @@ kept_added n ws o t e slot v kept has =
           let c : length (without slot (free_slots o)) + times_in slot (free_slots o) ≡ length (free_slots o) = length-without slot (free_slots o) in
           omega (arith, kept.count, place.2);
       by_target = subst (λ l. AreDealt (target_bucket_at n (set ws slot v)) l (pushed_at (target_bucket n v.target) slot t).lists) (sym used)
-          (subst (λ (w : Watcher). AreDealt (target_bucket_at n (set ws slot v)) (used_slots o ++ slot ∷ []) (pushed_at (target_bucket n w.target) slot t).lists) here
+          (subst (λ (w : Observer). AreDealt (target_bucket_at n (set ws slot v)) (used_slots o ++ slot ∷ []) (pushed_at (target_bucket n w.target) slot t).lists) here
           (dealt_push (target_bucket_at n ws) (target_bucket_at n (set ws slot v)) (used_slots o) (used_slots o ++ slot ∷ []) t.lists slot kept.by_target
-          (λ s other. ap (λ (w : Watcher). target_bucket n w.target) (watcher_stays ws slot s v other)) place.1 once (pushed_others slot (used_slots o))));
+          (λ s other. ap (λ (w : Observer). target_bucket n w.target) (observer_stays ws slot s v other)) place.1 once (pushed_others slot (used_slots o))));
       by_endpoint = subst (λ l. AreDealt (endpoint_bucket_at n (set ws slot v)) l (pushed_at (endpoint_bucket n v.from) slot e).lists) (sym used)
-          (subst (λ (w : Watcher). AreDealt (endpoint_bucket_at n (set ws slot v)) (used_slots o ++ slot ∷ []) (pushed_at (endpoint_bucket n w.from) slot e).lists) here
+          (subst (λ (w : Observer). AreDealt (endpoint_bucket_at n (set ws slot v)) (used_slots o ++ slot ∷ []) (pushed_at (endpoint_bucket n w.from) slot e).lists) here
           (dealt_push (endpoint_bucket_at n ws) (endpoint_bucket_at n (set ws slot v)) (used_slots o) (used_slots o ++ slot ∷ []) e.lists slot kept.by_endpoint
-          (λ s other. ap (λ (w : Watcher). endpoint_bucket n w.from) (watcher_stays ws slot s v other)) place.1 once (pushed_others slot (used_slots o))));
+          (λ s other. ap (λ (w : Observer). endpoint_bucket n w.from) (observer_stays ws slot s v other)) place.1 once (pushed_others slot (used_slots o))));
       some = kept.some;
-      watchers_count = length-set ws slot v ∙ kept.watchers_count;
+      observers_count = length-set ws slot v ∙ kept.observers_count;
       order_capacity = kept.order_capacity;
       targets_capacity = kept.targets_capacity;
       endpoints_capacity = kept.endpoints_capacity;
@@ -125,7 +125,7 @@ kept_added n ws o t e slot v kept has =
 
 -- ---- an observer that is taken away
 
-pub kept_removed : (n : ℕ) (ws : List Watcher) (o t e : Lists) (slot : ℕ) → AreKept n ws o t e → is_among slot (used_slots o) ≡ true
+pub kept_removed : (n : ℕ) (ws : List Observer) (o t e : Lists) (slot : ℕ) → AreKept n ws o t e → is_among slot (used_slots o) ≡ true
     → AreKept n ws (pushed_at 1 slot (without_at 0 slot o)) (without_at (target_bucket_at n ws slot) slot t) (without_at (endpoint_bucket_at n ws slot) slot e)
 kept_removed n ws o t e slot kept has =
     let place = used_place n ws o t e slot kept has in
@@ -152,7 +152,7 @@ kept_removed n ws o t e slot kept has =
           (dealt_pop (endpoint_bucket_at n ws) (used_slots o) (without slot (used_slots o)) e.lists slot kept.by_endpoint
           (times_without_same slot (used_slots o)) (λ s other. times_without_other s slot (used_slots o) other));
       some = kept.some;
-      watchers_count = kept.watchers_count;
+      observers_count = kept.observers_count;
       order_capacity = kept.order_capacity;
       targets_capacity = kept.targets_capacity;
       endpoints_capacity = kept.endpoints_capacity;
@@ -163,13 +163,13 @@ kept_removed n ws o t e slot kept has =
 
 -- ---- an observer that takes a new target
 
-pub kept_replaced : (n : ℕ) (ws : List Watcher) (o t e : Lists) (slot : ℕ) (v : Watcher) → AreKept n ws o t e → is_among slot (used_slots o) ≡ true
-    → v.from ≡ (watcher_at ws slot).from
+pub kept_replaced : (n : ℕ) (ws : List Observer) (o t e : Lists) (slot : ℕ) (v : Observer) → AreKept n ws o t e → is_among slot (used_slots o) ≡ true
+    → v.from ≡ (observer_at ws slot).from
     → AreKept n (set ws slot v) o (pushed_at (target_bucket n v.target) slot (without_at (target_bucket_at n ws slot) slot t)) e
 kept_replaced n ws o t e slot v kept has from =
     let place = used_place n ws o t e slot kept has in
-    let below : slot < length ws = omega (arith, kept.watchers_count, place.0) in
-    let here : watcher_at (set ws slot v) slot ≡ v = watcher_is ws slot v below in
+    let below : slot < length ws = omega (arith, kept.observers_count, place.0) in
+    let here : observer_at (set ws slot v) slot ≡ v = observer_is ws slot v below in
     let left : List (List ℕ) = (without_at (target_bucket_at n ws slot) slot t).lists in
     let popped : AreDealt (target_bucket_at n ws) (without slot (used_slots o)) (without_at (target_bucket_at n ws slot) slot t).lists
     = dealt_pop (target_bucket_at n ws) (used_slots o) (without slot (used_slots o)) t.lists slot kept.by_target
@@ -177,14 +177,14 @@ kept_replaced n ws o t e slot v kept has from =
     record {
       slots = kept.slots;
       count = kept.count;
-      by_target = subst (λ (w : Watcher). AreDealt (target_bucket_at n (set ws slot v)) (used_slots o) (pushed_at (target_bucket n w.target) slot (without_at (target_bucket_at n ws slot) slot t)).lists) here
+      by_target = subst (λ (w : Observer). AreDealt (target_bucket_at n (set ws slot v)) (used_slots o) (pushed_at (target_bucket n w.target) slot (without_at (target_bucket_at n ws slot) slot t)).lists) here
           (dealt_push (target_bucket_at n ws) (target_bucket_at n (set ws slot v)) (without slot (used_slots o)) (used_slots o) (without_at (target_bucket_at n ws slot) slot t).lists slot popped
-          (λ s other. ap (λ (w : Watcher). target_bucket n w.target) (watcher_stays ws slot s v other)) (times_without_same slot (used_slots o)) place.1
+          (λ s other. ap (λ (w : Observer). target_bucket n w.target) (observer_stays ws slot s v other)) (times_without_same slot (used_slots o)) place.1
           (λ s other. sym (times_without_other s slot (used_slots o) other)));
       by_endpoint = dealt_same (endpoint_bucket_at n ws) (endpoint_bucket_at n (set ws slot v)) (used_slots o) e.lists
-          (λ s. ap (endpoint_bucket n) (stays_of (λ (w : Watcher). w.from) ws slot v below from s)) kept.by_endpoint;
+          (λ s. ap (endpoint_bucket n) (stays_of (λ (w : Observer). w.from) ws slot v below from s)) kept.by_endpoint;
       some = kept.some;
-      watchers_count = length-set ws slot v ∙ kept.watchers_count;
+      observers_count = length-set ws slot v ∙ kept.observers_count;
       order_capacity = kept.order_capacity;
       targets_capacity = kept.targets_capacity;
       endpoints_capacity = kept.endpoints_capacity;
@@ -195,8 +195,8 @@ kept_replaced n ws o t e slot v kept has from =
 
 -- ---- observers that keep their targets and endpoints
 
-pub kept_changed : (n : ℕ) (ws ws2 : List Watcher) (o t e : Lists) → AreKept n ws o t e → length ws2 ≡ length ws
-    → ((s : ℕ) → (watcher_at ws2 s).target ≡ (watcher_at ws s).target) → ((s : ℕ) → (watcher_at ws2 s).from ≡ (watcher_at ws s).from)
+pub kept_changed : (n : ℕ) (ws ws2 : List Observer) (o t e : Lists) → AreKept n ws o t e → length ws2 ≡ length ws
+    → ((s : ℕ) → (observer_at ws2 s).target ≡ (observer_at ws s).target) → ((s : ℕ) → (observer_at ws2 s).from ≡ (observer_at ws s).from)
     → AreKept n ws2 o t e
 kept_changed n ws ws2 o t e kept count targets froms = record {
   slots = kept.slots;
@@ -204,7 +204,7 @@ kept_changed n ws ws2 o t e kept count targets froms = record {
   by_target = dealt_same (target_bucket_at n ws) (target_bucket_at n ws2) (used_slots o) t.lists (λ s. ap (target_bucket n) (targets s)) kept.by_target;
   by_endpoint = dealt_same (endpoint_bucket_at n ws) (endpoint_bucket_at n ws2) (used_slots o) e.lists (λ s. ap (endpoint_bucket n) (froms s)) kept.by_endpoint;
   some = kept.some;
-  watchers_count = count ∙ kept.watchers_count;
+  observers_count = count ∙ kept.observers_count;
   order_capacity = kept.order_capacity;
   targets_capacity = kept.targets_capacity;
   endpoints_capacity = kept.endpoints_capacity;
@@ -213,16 +213,16 @@ kept_changed n ws ws2 o t e kept count targets froms = record {
   endpoints_count = kept.endpoints_count;
 }
 
-pub kept_at : (n : ℕ) (ws : List Watcher) (o t e : Lists) (slot : ℕ) (v : Watcher) → AreKept n ws o t e → slot < length ws
-    → v.target ≡ (watcher_at ws slot).target → v.from ≡ (watcher_at ws slot).from → AreKept n (set ws slot v) o t e
+pub kept_at : (n : ℕ) (ws : List Observer) (o t e : Lists) (slot : ℕ) (v : Observer) → AreKept n ws o t e → slot < length ws
+    → v.target ≡ (observer_at ws slot).target → v.from ≡ (observer_at ws slot).from → AreKept n (set ws slot v) o t e
 kept_at n ws o t e slot v kept below target from =
     kept_changed n ws (set ws slot v) o t e kept (length-set ws slot v)
-    (stays_of (λ (w : Watcher). w.target) ws slot v below target) (stays_of (λ (w : Watcher). w.from) ws slot v below from)
+    (stays_of (λ (w : Observer). w.target) ws slot v below target) (stays_of (λ (w : Observer). w.from) ws slot v below from)
 
 -- ---- the lists that don't have a slot
 
 -- a free slot
-pub taken_from_free : (n : ℕ) (ws : List Watcher) (o t e : Lists) (slot : ℕ) → AreKept n ws o t e → is_among slot (free_slots o) ≡ true
+pub taken_from_free : (n : ℕ) (ws : List Observer) (o t e : Lists) (slot : ℕ) → AreKept n ws o t e → is_among slot (free_slots o) ≡ true
     → (i : ℕ) → is_among slot (list_at i (without_at 1 slot o)) ≡ false
 taken_from_free n ws o t e slot kept has =
     let place = free_place n ws o t e slot kept has in
@@ -230,18 +230,18 @@ taken_from_free n ws o t e slot kept has =
     let zero : i ≡ 0 = omega (arith, kept.order_count) in
     subst (λ z. times_in slot (get_or o.lists z []) ≡ 0) (sym zero) place.1)
 
-pub free_has_no_target : (n : ℕ) (ws : List Watcher) (o t e : Lists) (slot : ℕ) → AreKept n ws o t e → is_among slot (free_slots o) ≡ true
+pub free_has_no_target : (n : ℕ) (ws : List Observer) (o t e : Lists) (slot : ℕ) → AreKept n ws o t e → is_among slot (free_slots o) ≡ true
     → (i : ℕ) → is_among slot (list_at i t) ≡ false
 free_has_no_target n ws o t e slot kept has =
     undealt (target_bucket_at n ws) (used_slots o) t.lists slot kept.by_target (free_place n ws o t e slot kept has).1
 
-pub free_has_no_endpoint : (n : ℕ) (ws : List Watcher) (o t e : Lists) (slot : ℕ) → AreKept n ws o t e → is_among slot (free_slots o) ≡ true
+pub free_has_no_endpoint : (n : ℕ) (ws : List Observer) (o t e : Lists) (slot : ℕ) → AreKept n ws o t e → is_among slot (free_slots o) ≡ true
     → (i : ℕ) → is_among slot (list_at i e) ≡ false
 free_has_no_endpoint n ws o t e slot kept has =
     undealt (endpoint_bucket_at n ws) (used_slots o) e.lists slot kept.by_endpoint (free_place n ws o t e slot kept has).1
 
 -- a slot with an observer
-pub taken_from_used : (n : ℕ) (ws : List Watcher) (o t e : Lists) (slot : ℕ) → AreKept n ws o t e → is_among slot (used_slots o) ≡ true
+pub taken_from_used : (n : ℕ) (ws : List Observer) (o t e : Lists) (slot : ℕ) → AreKept n ws o t e → is_among slot (used_slots o) ≡ true
     → (i : ℕ) → is_among slot (list_at i (without_at 0 slot o)) ≡ false
 taken_from_used n ws o t e slot kept has =
     let place = used_place n ws o t e slot kept has in
@@ -249,18 +249,18 @@ taken_from_used n ws o t e slot kept has =
     let one : i ≡ 1 = omega (arith, kept.order_count) in
     subst (λ z. times_in slot (get_or o.lists z []) ≡ 0) (sym one) place.2)
 
-pub taken_from_target : (n : ℕ) (ws : List Watcher) (o t e : Lists) (slot : ℕ) → AreKept n ws o t e
+pub taken_from_target : (n : ℕ) (ws : List Observer) (o t e : Lists) (slot : ℕ) → AreKept n ws o t e
     → (i : ℕ) → is_among slot (list_at i (without_at (target_bucket_at n ws slot) slot t)) ≡ false
 taken_from_target n ws o t e slot kept =
     popped_in_none t.lists (target_bucket_at n ws slot) slot (dealt_once (target_bucket_at n ws) (used_slots o) t.lists slot kept.by_target)
 
 -- it is in the lists of its target and of its endpoint
-pub in_its_target : (n : ℕ) (ws : List Watcher) (o t e : Lists) (slot : ℕ) → AreKept n ws o t e → is_among slot (used_slots o) ≡ true
+pub in_its_target : (n : ℕ) (ws : List Observer) (o t e : Lists) (slot : ℕ) → AreKept n ws o t e → is_among slot (used_slots o) ≡ true
     → target_bucket_at n ws slot < n → is_among slot (list_at (target_bucket_at n ws slot) t) ≡ true
 in_its_target n ws o t e slot kept has below =
     dealt_there (target_bucket_at n ws) (used_slots o) t.lists slot kept.by_target (among_counted slot (used_slots o) has) (omega (arith, kept.targets_count))
 
-pub in_its_endpoint : (n : ℕ) (ws : List Watcher) (o t e : Lists) (slot : ℕ) → AreKept n ws o t e → is_among slot (used_slots o) ≡ true
+pub in_its_endpoint : (n : ℕ) (ws : List Observer) (o t e : Lists) (slot : ℕ) → AreKept n ws o t e → is_among slot (used_slots o) ≡ true
     → endpoint_bucket_at n ws slot < n → is_among slot (list_at (endpoint_bucket_at n ws slot) e) ≡ true
 in_its_endpoint n ws o t e slot kept has below =
     dealt_there (endpoint_bucket_at n ws) (used_slots o) e.lists slot kept.by_endpoint (among_counted slot (used_slots o) has) (omega (arith, kept.endpoints_count))
@@ -278,7 +278,7 @@ none_dealt number n used none i s below =
     let right : cond (number s == i) (times_in s used) 0 ≡ 0 = zero_either (number s == i) (times_in s used) (ap (times_in s) none) in
     left ∙ sym right
 
-pub kept_first : (n : ℕ) (ws : List Watcher) (o : Lists) → 0 < n → length ws ≡ n → o.capacity ≡ n → length o.lists ≡ 2
+pub kept_first : (n : ℕ) (ws : List Observer) (o : Lists) → 0 < n → length ws ≡ n → o.capacity ≡ n → length o.lists ≡ 2
     → ((s : ℕ) → times_in s (free_slots o) ≡ once_below s n) → length (free_slots o) ≡ n → used_slots o ≡ [] → AreKept n ws o (empty_lists n n) (empty_lists n n)
 kept_first n ws o some count capacity two free free_count none = record {
   slots = λ s. let unused : times_in s (used_slots o) ≡ 0 = ap (times_in s) none in omega (arith, free s);
@@ -286,7 +286,7 @@ kept_first n ws o some count capacity two free free_count none = record {
   by_target = none_dealt (target_bucket_at n ws) n (used_slots o) none;
   by_endpoint = none_dealt (endpoint_bucket_at n ws) n (used_slots o) none;
   some = some;
-  watchers_count = count;
+  observers_count = count;
   order_capacity = capacity;
   targets_capacity = refl;
   endpoints_capacity = refl;

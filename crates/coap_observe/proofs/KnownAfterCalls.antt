@@ -7,25 +7,25 @@ use Rattle.std.proofs.lemmas.List.Elements.{All-push, All-weaker, Contains-appen
 use Rattle.coap_msg.specs.declared.endpoint.Endpoint.{Endpoint}
 use Rattle.coap_msg.specs.Endpoints.{is_same_endpoint}
 use Rattle.coap_msg.proofs.SameEndpoints.{both, same_endpoint, itself}
-use Rattle.coap_observe.specs.declared.watcher.Watcher.{Watcher}
+use Rattle.coap_observe.specs.declared.observer.Observer.{Observer}
 use Rattle.coap_observe.specs.declared.notice.Registered.{Registered}
 use Rattle.coap_observe.specs.declared.notice.Registered.TheVariants.{New, Replaced, Full}
 use Rattle.coap_observe.specs.declared.notice.Notice.{Notice}
 use Rattle.coap_observe.specs.Sending.{Sent, sent_again, first_sent}
-use Rattle.coap_observe.specs.Watching.{Watching, next_sequence, is_pair, is_of_target, is_due, is_free, newcomer, replaced, marked, acknowledged as settled, resent, renewed, notified, Registers, GivesUp, IsNotice, Sends, same, newer, first, nothing as nothing_sent}
+use Rattle.coap_observe.specs.Watching.{Watching, next_sequence, is_pair, is_of_target, is_due, is_sendable, newcomer, replaced, marked, acknowledged as settled, resent, renewed, notified, Registers, GivesUp, IsNotification, Sends, same, newer, first, nothing as nothing_sent}
 use Rattle.coap_observe.specs.Laws.{count, is_for}
-use Rattle.coap_observe.specs.Accounts.{Registration, SentNotice, Account, last_place, with_registration, with_value, with_notice, one_if, registrations_of}
+use Rattle.coap_observe.specs.Accounts.{Registration, SentNotification, Account, last_place, with_registration, with_value, with_notification, one_if, registrations_of}
 use Rattle.coap_observe.proofs.Counts.{found_passes}
 use Rattle.coap_observe.proofs.Found.{found_changed}
 use Rattle.coap_observe.proofs.NumberLaws.{kept_before}
 use Rattle.coap_observe.proofs.SendingLaws.{pair_is, for_whom}
 use Rattle.coap_observe.proofs.Tokens.{same_token, own_token}
-use Rattle.coap_observe.proofs.KnownOfWatchers.{registrations_push, fresh_push, other_place, later_place, own_place, IsBehind, IsKnown, Holds, of_map, of_push, of_first}
+use Rattle.coap_observe.proofs.KnownOfObservers.{registrations_push, fresh_push, other_place, later_place, own_place, IsBehind, IsKnown, Holds, of_map, of_push, of_first}
 
 -- ---- one call: registrations
 
 -- one more registration leaves the facts on other pairs
-known_more : (from : Endpoint) (token : List ℕ) (a : Account) (r : Registration) (w : Watcher) → IsKnown from token a w
+known_more : (from : Endpoint) (token : List ℕ) (a : Account) (r : Registration) (w : Observer) → IsKnown from token a w
     → IsKnown from token (record a { registered = a.registered ++ r ∷ [] }) w
 known_more from token a r w k =
     let more = registrations_push from token a.registered r in
@@ -38,7 +38,7 @@ known_more from token a r w k =
       ids = k.ids;
       once = λ one few. let u = k.once (omega arith) few in record {
         count = u.count;
-        each = All-weaker (λ (s : SentNotice). is_for from token s.notice ≡ true → IsBehind a w s) (λ (s : SentNotice). is_for from token s.notice ≡ true → IsBehind (record a { registered = a.registered ++ r ∷ [] }) w s)
+        each = All-weaker (λ (s : SentNotification). is_for from token s.notice ≡ true → IsBehind a w s) (λ (s : SentNotification). is_for from token s.notice ≡ true → IsBehind (record a { registered = a.registered ++ r ∷ [] }) w s)
             (λ s behind whom. let b = behind whom in record { target = b.target; place = b.place; number = b.number }) a.sent u.each;
         noted = u.noted;
       };
@@ -64,7 +64,7 @@ counted_own from end token name target rs e =
     registrations_push from token rs (record { from = end; token = name; target = target }) ∙ ap (λ b. registrations_of from token rs + one_if b) e
 
 -- a pair that registered before did so twice
-known_replaced : (from end : Endpoint) (token name : List ℕ) (target : ℕ) (a : Account) (w : Watcher) → (is_same_endpoint from end && bytes_eq token name) ≡ true
+known_replaced : (from end : Endpoint) (token name : List ℕ) (target : ℕ) (a : Account) (w : Observer) → (is_same_endpoint from end && bytes_eq token name) ≡ true
     → IsKnown from token a w → IsKnown from token (record a { registered = a.registered ++ record { from = end; token = name; target = target } ∷ [] }) (replaced target w)
 known_replaced from end token name target a w mine k =
     let count_is = counted_own from end token name target a.registered mine in
@@ -93,8 +93,8 @@ known_new from end token name target a short mine sent_are =
       ids = λ x e. absurd (cc);
       once = λ one few. record {
         count = omega arith;
-        each = All-weaker (λ (s : SentNotice). is_for from token s.notice ≡ true → 0 < registrations_of from token a.registered)
-            (λ (s : SentNotice). is_for from token s.notice ≡ true → IsBehind (record a { registered = a.registered ++ record { from = end; token = name; target = target } ∷ [] }) (newcomer end name target) s)
+        each = All-weaker (λ (s : SentNotification). is_for from token s.notice ≡ true → 0 < registrations_of from token a.registered)
+            (λ (s : SentNotification). is_for from token s.notice ≡ true → IsBehind (record a { registered = a.registered ++ record { from = end; token = name; target = target } ∷ [] }) (newcomer end name target) s)
             (λ s some whom. absurd (let more = some whom in omega arith)) a.sent sent_are;
         noted = λ x e. absurd (cc);
       };
@@ -103,12 +103,12 @@ known_new from end token name target a short mine sent_are =
 sent_more : (from : Endpoint) (token : List ℕ) (a : Account) (r : Registration) → All (λ s. is_for from token s.notice ≡ true → 0 < registrations_of from token a.registered) a.sent
     → All (λ s. is_for from token s.notice ≡ true → 0 < registrations_of from token (a.registered ++ r ∷ [])) a.sent
 sent_more from token a r all =
-    All-weaker (λ (s : SentNotice). is_for from token s.notice ≡ true → 0 < registrations_of from token a.registered)
-    (λ (s : SentNotice). is_for from token s.notice ≡ true → 0 < registrations_of from token (a.registered ++ r ∷ []))
+    All-weaker (λ (s : SentNotification). is_for from token s.notice ≡ true → 0 < registrations_of from token a.registered)
+    (λ (s : SentNotification). is_for from token s.notice ≡ true → 0 < registrations_of from token (a.registered ++ r ∷ []))
     (λ s some whom. let before = some whom in let more = registrations_push from token a.registered r in omega arith) a.sent all
 
 -- the pair of an observer, and another
-same_pair : (from end : Endpoint) (token name : List ℕ) (w : Watcher) → is_pair from token w ≡ true → is_pair end name w ≡ true → (is_same_endpoint from end && bytes_eq token name) ≡ true
+same_pair : (from end : Endpoint) (token name : List ℕ) (w : Observer) → is_pair from token w ≡ true → is_pair end name w ≡ true → (is_same_endpoint from end && bytes_eq token name) ≡ true
 same_pair from end token name w mine theirs =
     let a = pair_is from token w mine in
     let b = pair_is end name w theirs in
@@ -122,11 +122,11 @@ holds_registered from end token name target a t u (Replaced n) short reg h =
     let b : Account = record a { registered = a.registered ++ x ∷ [] } in
     subst (λ (y : Watching). Holds from token b y.list) (sym reg.1) (record {
       sent_are = sent_more from token a x h.sent_are;
-      watcher = of_map from token (IsKnown from token a) (IsKnown from token b) (is_pair end name) (replaced target) t.list (λ w. refl)
-          (λ w mine k c test. at w mine k c test) h.watcher;
+      observer = of_map from token (IsKnown from token a) (IsKnown from token b) (is_pair end name) (replaced target) t.list (λ w. refl)
+          (λ w mine k c test. at w mine k c test) h.observer;
     })
   where
-    at : (w : Watcher) → is_pair from token w ≡ true → IsKnown from token a w → (c : Bool) → is_pair end name w ≡ c
+    at : (w : Observer) → is_pair from token w ≡ true → IsKnown from token a w → (c : Bool) → is_pair end name w ≡ c
         → IsKnown from token (record a { registered = a.registered ++ record { from = end; token = name; target = target } ∷ [] }) (cond c (replaced target w) w)
     at w mine k true test = known_replaced from end token name target a w (same_pair from end token name w mine test) k
     at w mine k false test = known_more from token a (record { from = end; token = name; target = target }) w k
@@ -135,14 +135,14 @@ holds_registered from end token name target a t u (New n) short reg h =
     let b : Account = record a { registered = a.registered ++ x ∷ [] } in
     subst (λ (y : Watching). Holds from token b y.list) (sym reg.3) (record {
       sent_are = sent_more from token a x h.sent_are;
-      watcher = of_push from token (IsKnown from token a) (IsKnown from token b) t.list (newcomer end name target)
-          (λ w k. known_more from token a x w k) (λ mine. known_new from end token name target a short mine h.sent_are) h.watcher;
+      observer = of_push from token (IsKnown from token a) (IsKnown from token b) t.list (newcomer end name target)
+          (λ w k. known_more from token a x w k) (λ mine. known_new from end token name target a short mine h.sent_are) h.observer;
     })
 holds_registered from end token name target a t u Full short reg h = subst (λ (y : Watching). Holds from token a y.list) (sym reg.2) h
 
 -- ---- one call: values
 
-behind_valued : (a : Account) (target : ℕ) (w : Watcher) (s : SentNotice) (b : Bool) → is_of_target target w ≡ b → IsBehind a w s → IsBehind (with_value target a) (cond b (marked w) w) s
+behind_valued : (a : Account) (target : ℕ) (w : Observer) (s : SentNotification) (b : Bool) → is_of_target target w ≡ b → IsBehind a w s → IsBehind (with_value target a) (cond b (marked w) w) s
 behind_valued a target w s true test h = record {
   target = h.target;
   place = let old = h.place in let later = later_place w.target target a.emitted in omega arith;
@@ -166,7 +166,7 @@ behind_valued a target w s false test h =
     turned : (m n : ℕ) → (m == n) ≡ false → (n == m) ≡ false
     turned m n e = grind (arith, nat_tests)
 
-pub known_valued : (from : Endpoint) (token : List ℕ) (a : Account) (target : ℕ) (w : Watcher) (b : Bool) → is_of_target target w ≡ b → IsKnown from token a w
+pub known_valued : (from : Endpoint) (token : List ℕ) (a : Account) (target : ℕ) (w : Observer) (b : Bool) → is_of_target target w ≡ b → IsKnown from token a w
     → IsKnown from token (with_value target a) (cond b (marked w) w)
 known_valued from token a target w true test k = record {
   registered = k.registered;
@@ -177,7 +177,7 @@ known_valued from token a target w true test k = record {
   ids = λ x e. ((k.ids x e).0, own_place w.target target a.emitted test);
   once = λ one few. let u = k.once one few in record {
     count = u.count;
-    each = All-weaker (λ (s : SentNotice). is_for from token s.notice ≡ true → IsBehind a w s) (λ (s : SentNotice). is_for from token s.notice ≡ true → IsBehind (with_value target a) (marked w) s)
+    each = All-weaker (λ (s : SentNotification). is_for from token s.notice ≡ true → IsBehind a w s) (λ (s : SentNotification). is_for from token s.notice ≡ true → IsBehind (with_value target a) (marked w) s)
         (λ s behind whom. behind_valued a target w s true test (behind whom)) a.sent u.each;
     noted = u.noted;
   };
@@ -191,7 +191,7 @@ known_valued from token a target w false test k = record {
   ids = λ x e. let old = k.ids x e in let later = later_place w.target target a.emitted in (old.0, let more = old.1 in omega arith);
   once = λ one few. let u = k.once one few in record {
     count = u.count;
-    each = All-weaker (λ (s : SentNotice). is_for from token s.notice ≡ true → IsBehind a w s) (λ (s : SentNotice). is_for from token s.notice ≡ true → IsBehind (with_value target a) w s)
+    each = All-weaker (λ (s : SentNotification). is_for from token s.notice ≡ true → IsBehind a w s) (λ (s : SentNotification). is_for from token s.notice ≡ true → IsBehind (with_value target a) w s)
         (λ s behind whom. behind_valued a target w s false test (behind whom)) a.sent u.each;
     noted = u.noted;
   };
@@ -199,7 +199,7 @@ known_valued from token a target w false test k = record {
 
 -- ---- one call: acknowledgements
 
-pub known_settled : (from : Endpoint) (token : List ℕ) (a : Account) (w : Watcher) (b : Bool) → IsKnown from token a w → IsKnown from token a (cond b (settled w) w)
+pub known_settled : (from : Endpoint) (token : List ℕ) (a : Account) (w : Observer) (b : Bool) → IsKnown from token a w → IsKnown from token a (cond b (settled w) w)
 known_settled from token a w true k = record {
   registered = k.registered;
   short = k.short;
@@ -209,7 +209,7 @@ known_settled from token a w true k = record {
   ids = λ x e. absurd (cc);
   once = λ one few. let u = k.once one few in record {
     count = u.count;
-    each = All-weaker (λ (s : SentNotice). is_for from token s.notice ≡ true → IsBehind a w s) (λ (s : SentNotice). is_for from token s.notice ≡ true → IsBehind a (settled w) s)
+    each = All-weaker (λ (s : SentNotification). is_for from token s.notice ≡ true → IsBehind a w s) (λ (s : SentNotification). is_for from token s.notice ≡ true → IsBehind a (settled w) s)
         (λ s behind whom. let b = behind whom in record { target = b.target; place = b.place; number = b.number }) a.sent u.each;
     noted = λ x e. absurd (cc);
   };
@@ -219,9 +219,9 @@ known_settled from token a w false k = k
 -- ---- one call: a notification
 
 -- one that is for another
-known_beside : (from : Endpoint) (token : List ℕ) (a : Account) (n : Notice) (w : Watcher) → is_for from token n ≡ false → IsKnown from token a w → IsKnown from token (with_notice (Some n) a) w
+known_beside : (from : Endpoint) (token : List ℕ) (a : Account) (n : Notice) (w : Observer) → is_for from token n ≡ false → IsKnown from token a w → IsKnown from token (with_notification (Some n) a) w
 known_beside from token a n w other k =
-    let s : SentNotice = record { notice = n; place = last_place n.target a.emitted } in
+    let s : SentNotification = record { notice = n; place = last_place n.target a.emitted } in
     let more = fresh_push a.sent s in
     record {
       registered = k.registered;
@@ -232,8 +232,8 @@ known_beside from token a n w other k =
       ids = k.ids;
       once = λ one few. let u = k.once one (omega arith) in record {
         count = let before = u.count in omega arith;
-        each = All-push (λ (x : SentNotice). is_for from token x.notice ≡ true → IsBehind (with_notice (Some n) a) w x) a.sent s
-            (All-weaker (λ (x : SentNotice). is_for from token x.notice ≡ true → IsBehind a w x) (λ (x : SentNotice). is_for from token x.notice ≡ true → IsBehind (with_notice (Some n) a) w x)
+        each = All-push (λ (x : SentNotification). is_for from token x.notice ≡ true → IsBehind (with_notification (Some n) a) w x) a.sent s
+            (All-weaker (λ (x : SentNotification). is_for from token x.notice ≡ true → IsBehind a w x) (λ (x : SentNotification). is_for from token x.notice ≡ true → IsBehind (with_notification (Some n) a) w x)
             (λ x behind whom. let b = behind whom in record { target = b.target; place = b.place; number = b.number }) a.sent u.each)
             (λ whom. absurd (cc));
         noted = u.noted;
@@ -241,10 +241,10 @@ known_beside from token a n w other k =
     }
 
 -- the same message again
-known_again : (from : Endpoint) (token : List ℕ) (a : Account) (n : Notice) (c : Watcher) (now : ℕ) (x : Sent) → c.notification ≡ Some x → c.is_marked ≡ false
-    → IsNotice c x.id c.sequence false n → IsKnown from token a c → IsKnown from token (with_notice (Some n) a) (resent now c)
+known_again : (from : Endpoint) (token : List ℕ) (a : Account) (n : Notice) (c : Observer) (now : ℕ) (x : Sent) → c.notification ≡ Some x → c.is_marked ≡ false
+    → IsNotification c x.id c.sequence false n → IsKnown from token a c → IsKnown from token (with_notification (Some n) a) (resent now c)
 known_again from token a n c now x was unmarked notice k =
-    let s : SentNotice = record { notice = n; place = last_place n.target a.emitted } in
+    let s : SentNotification = record { notice = n; place = last_place n.target a.emitted } in
     let more = fresh_push a.sent s in
     record {
       registered = k.registered;
@@ -258,8 +258,8 @@ known_again from token a n c now x was unmarked notice k =
           (let low = old.0 in omega arith, old.1);
       once = λ one few. let u = k.once one (omega arith) in record {
         count = let before = u.count in omega arith;
-        each = All-push (λ (y : SentNotice). is_for from token y.notice ≡ true → IsBehind (with_notice (Some n) a) (resent now c) y) a.sent s
-            (All-weaker (λ (y : SentNotice). is_for from token y.notice ≡ true → IsBehind a c y) (λ (y : SentNotice). is_for from token y.notice ≡ true → IsBehind (with_notice (Some n) a) (resent now c) y)
+        each = All-push (λ (y : SentNotification). is_for from token y.notice ≡ true → IsBehind (with_notification (Some n) a) (resent now c) y) a.sent s
+            (All-weaker (λ (y : SentNotification). is_for from token y.notice ≡ true → IsBehind a c y) (λ (y : SentNotification). is_for from token y.notice ≡ true → IsBehind (with_notification (Some n) a) (resent now c) y)
             (λ y behind whom. let b = behind whom in record { target = b.target; place = b.place; number = b.number }) a.sent u.each)
             (λ whom. record {
               target = notice.target;
@@ -274,11 +274,11 @@ known_again from token a n c now x was unmarked notice k =
     same_sent p q e' = cc
 
 -- a new message
-known_fresh : (from : Endpoint) (token : List ℕ) (a : Account) (n : Notice) (c v : Watcher) (id : ℕ) → id < 2 ^ 16 → c.is_marked ≡ true → IsNotice c id (next_sequence c.sequence) true n
+known_fresh : (from : Endpoint) (token : List ℕ) (a : Account) (n : Notice) (c v : Observer) (id : ℕ) → id < 2 ^ 16 → c.is_marked ≡ true → IsNotification c id (next_sequence c.sequence) true n
     → v.target ≡ c.target → v.sequence ≡ next_sequence c.sequence → v.is_marked ≡ false → ((y : Sent) → v.notification ≡ Some y → y.id ≡ id)
-    → IsKnown from token a c → IsKnown from token (with_notice (Some n) a) v
+    → IsKnown from token a c → IsKnown from token (with_notification (Some n) a) v
 known_fresh from token a n c v id small marked_one notice target number unmarked ids k =
-    let s : SentNotice = record { notice = n; place = last_place n.target a.emitted } in
+    let s : SentNotification = record { notice = n; place = last_place n.target a.emitted } in
     let more = fresh_push a.sent s in
     let fresh : one_if n.fresh ≡ 1 = ap one_if notice.fresh_is in
     let place_is : last_place v.target a.emitted ≡ last_place c.target a.emitted = ap (λ (t : ℕ). last_place t a.emitted) target in
@@ -295,8 +295,8 @@ known_fresh from token a n c v id small marked_one notice target number unmarked
           let next : next_sequence c.sequence ≡ c.sequence + 1 = omega arith in
           record {
             count = omega arith;
-            each = All-push (λ (y : SentNotice). is_for from token y.notice ≡ true → IsBehind (with_notice (Some n) a) v y) a.sent s
-                (All-weaker (λ (y : SentNotice). is_for from token y.notice ≡ true → IsBehind a c y) (λ (y : SentNotice). is_for from token y.notice ≡ true → IsBehind (with_notice (Some n) a) v y)
+            each = All-push (λ (y : SentNotification). is_for from token y.notice ≡ true → IsBehind (with_notification (Some n) a) v y) a.sent s
+                (All-weaker (λ (y : SentNotification). is_for from token y.notice ≡ true → IsBehind a c y) (λ (y : SentNotification). is_for from token y.notice ≡ true → IsBehind (with_notification (Some n) a) v y)
                 (λ y behind whom. let b = behind whom in record {
                   target = b.target ∙ sym target;
                   place = let old = b.place in omega arith;
@@ -316,34 +316,34 @@ known_fresh from token a n c v id small marked_one notice target number unmarked
 
 sent_push : (from : Endpoint) (token : List ℕ) (a : Account) (n : Notice) → (is_for from token n ≡ true → 0 < registrations_of from token a.registered)
     → All (λ s. is_for from token s.notice ≡ true → 0 < registrations_of from token a.registered) a.sent
-    → All (λ s. is_for from token s.notice ≡ true → 0 < registrations_of from token a.registered) (with_notice (Some n) a).sent
+    → All (λ s. is_for from token s.notice ≡ true → 0 < registrations_of from token a.registered) (with_notification (Some n) a).sent
 sent_push from token a n mine all =
-    All-push (λ (s : SentNotice). is_for from token s.notice ≡ true → 0 < registrations_of from token a.registered) a.sent (record { notice = n; place = last_place n.target a.emitted }) all mine
+    All-push (λ (s : SentNotification). is_for from token s.notice ≡ true → 0 < registrations_of from token a.registered) a.sent (record { notice = n; place = last_place n.target a.emitted }) all mine
 
 -- of the one that something is sent to
-some_of : (from : Endpoint) (token : List ℕ) (a : Account) (p : Watcher → Bool) (f : Watcher → Watcher) (ws : List Watcher) (c : Watcher) (n : Notice)
-    → Holds from token a ws → find p ws ≡ Some c → count (is_pair from token) ws ≤ 1 → ((w : Watcher) → is_pair from token (f w) ≡ is_pair from token w)
+some_of : (from : Endpoint) (token : List ℕ) (a : Account) (p : Observer → Bool) (f : Observer → Observer) (ws : List Observer) (c : Observer) (n : Notice)
+    → Holds from token a ws → find p ws ≡ Some c → count (is_pair from token) ws ≤ 1 → ((w : Observer) → is_pair from token (f w) ≡ is_pair from token w)
     → is_for from token n ≡ is_pair from token c → is_for from token n ≡ true → 0 < registrations_of from token a.registered
 some_of from token a p f ws c n h found most keeps whom mine =
     let it : is_pair from token c ≡ true = sym whom ∙ mine in
-    (h.watcher c (found_changed (is_pair from token) p f ws c found it (keeps c ∙ it) most).0).some
+    (h.observer c (found_changed (is_pair from token) p f ws c found it (keeps c ∙ it) most).0).some
 
-pub holds_sent : (from : Endpoint) (token : List ℕ) (a : Account) (now id : ℕ) (ws us : List Watcher) (o : Option Notice) → id < 2 ^ 16 → Sends now id ws o us
-    → count (is_pair from token) ws ≤ 1 → Holds from token a ws → Holds from token (with_notice o a) us
+pub holds_sent : (from : Endpoint) (token : List ℕ) (a : Account) (now id : ℕ) (ws us : List Observer) (o : Option Notice) → id < 2 ^ 16 → Sends now id ws o us
+    → count (is_pair from token) ws ≤ 1 → Holds from token a ws → Holds from token (with_notification o a) us
 holds_sent from token a now id ws _ _ small (same c x n us found unmarked was notice is) most h =
     let whom = for_whom from token c x.id c.sequence false n notice in
-    subst (Holds from token (with_notice (Some n) a)) (sym is) (record {
+    subst (Holds from token (with_notification (Some n) a)) (sym is) (record {
       sent_are = sent_push from token a n (λ mine. some_of from token a (is_due now) (resent now) ws c n h found most (λ w. refl) whom mine) h.sent_are;
-      watcher = of_first from token (IsKnown from token a) (IsKnown from token (with_notice (Some n) a)) (is_due now) (resent now) ws c found most (λ w. refl)
-          (λ it k. known_again from token a n c now x was unmarked notice k) (λ other w k. known_beside from token a n w (whom ∙ other) k) h.watcher;
+      observer = of_first from token (IsKnown from token a) (IsKnown from token (with_notification (Some n) a)) (is_due now) (resent now) ws c found most (λ w. refl)
+          (λ it k. known_again from token a n c now x was unmarked notice k) (λ other w k. known_beside from token a n w (whom ∙ other) k) h.observer;
     })
 holds_sent from token a now id ws _ _ small (newer c n us found marked_one notice is) most h =
     let whom = for_whom from token c id (next_sequence c.sequence) true n notice in
-    subst (Holds from token (with_notice (Some n) a)) (sym is) (record {
+    subst (Holds from token (with_notification (Some n) a)) (sym is) (record {
       sent_are = sent_push from token a n (λ mine. some_of from token a (is_due now) (renewed now id) ws c n h found most (λ w. refl) whom mine) h.sent_are;
-      watcher = of_first from token (IsKnown from token a) (IsKnown from token (with_notice (Some n) a)) (is_due now) (renewed now id) ws c found most (λ w. refl)
+      observer = of_first from token (IsKnown from token a) (IsKnown from token (with_notification (Some n) a)) (is_due now) (renewed now id) ws c found most (λ w. refl)
           (λ it k. known_fresh from token a n c (renewed now id c) id small marked_one notice refl refl refl (λ y e. again_id c.notification y e) k)
-          (λ other w k. known_beside from token a n w (whom ∙ other) k) h.watcher;
+          (λ other w k. known_beside from token a n w (whom ∙ other) k) h.observer;
     })
   where
     again_id : (o : Option Sent) (y : Sent) → option_map (sent_again now id) o ≡ Some y → y.id ≡ id
@@ -354,11 +354,11 @@ holds_sent from token a now id ws _ _ small (newer c n us found marked_one notic
         same_sent p q e' = cc
 holds_sent from token a now id ws _ _ small (first c n us none_due found notice is) most h =
     let whom = for_whom from token c id (next_sequence c.sequence) true n notice in
-    subst (Holds from token (with_notice (Some n) a)) (sym is) (record {
-      sent_are = sent_push from token a n (λ mine. some_of from token a (is_free ws) (notified now id) ws c n h found most (λ w. refl) whom mine) h.sent_are;
-      watcher = of_first from token (IsKnown from token a) (IsKnown from token (with_notice (Some n) a)) (is_free ws) (notified now id) ws c found most (λ w. refl)
-          (λ it k. known_fresh from token a n c (notified now id c) id small (both c.is_marked _ (found_passes (is_free ws) ws c found)).0 notice refl refl refl (λ y e. first_id y e) k)
-          (λ other w k. known_beside from token a n w (whom ∙ other) k) h.watcher;
+    subst (Holds from token (with_notification (Some n) a)) (sym is) (record {
+      sent_are = sent_push from token a n (λ mine. some_of from token a (is_sendable ws) (notified now id) ws c n h found most (λ w. refl) whom mine) h.sent_are;
+      observer = of_first from token (IsKnown from token a) (IsKnown from token (with_notification (Some n) a)) (is_sendable ws) (notified now id) ws c found most (λ w. refl)
+          (λ it k. known_fresh from token a n c (notified now id c) id small (both c.is_marked _ (found_passes (is_sendable ws) ws c found)).0 notice refl refl refl (λ y e. first_id y e) k)
+          (λ other w k. known_beside from token a n w (whom ∙ other) k) h.observer;
     })
   where
     first_id : (y : Sent) → Some (first_sent now id) ≡ Some y → y.id ≡ id
@@ -369,9 +369,9 @@ holds_sent from token a now id ws _ _ small (first c n us none_due found notice 
 holds_sent from token a now id ws _ _ small (nothing_sent us none_due none_free is) most h = subst (Holds from token a) (sym is) h
 
 -- endpoints that are given up
-pub holds_left : (from : Endpoint) (token : List ℕ) (a : Account) (now : ℕ) (ws us : List Watcher) → GivesUp now ws us → count (is_pair from token) ws ≤ 1
+pub holds_left : (from : Endpoint) (token : List ℕ) (a : Account) (now : ℕ) (ws us : List Observer) → GivesUp now ws us → count (is_pair from token) ws ≤ 1
     → Holds from token a ws → Holds from token a us
 holds_left from token a now ws us gives most h = record {
   sent_are = h.sent_are;
-  watcher = λ v found. h.watcher v (kept_before (is_pair from token) now ws us v gives most found);
+  observer = λ v found. h.observer v (kept_before (is_pair from token) now ws us v gives most found);
 }

@@ -3,7 +3,7 @@ pub mod Due
 pub mod Counts
 pub mod Found
 mod Tokens
-pub mod KnownOfWatchers
+pub mod KnownOfObservers
 mod KnownAfterCalls
 pub mod AccountLaws
 pub mod CallLaws

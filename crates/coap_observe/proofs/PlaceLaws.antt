@@ -11,19 +11,19 @@ use Rattle.slot_lists.proofs.Among.{among_first, among_rest}
 use Rattle.coap_msg.specs.declared.endpoint.Endpoint.{Endpoint}
 use Rattle.coap_msg.specs.Endpoints.{is_same_endpoint}
 use Rattle.coap_msg.proofs.SameEndpoints.{both, same_endpoint}
-use Rattle.coap_observe.specs.declared.watcher.Watcher.{Watcher}
+use Rattle.coap_observe.specs.declared.observer.Observer.{Observer}
 use Rattle.coap_msg.specs.Buckets.{bucket}
 use Rattle.coap_observe.specs.Buckets.{endpoint_bucket, target_bucket}
-use Rattle.coap_observe.specs.Kept.{watcher_at, place_at, endpoint_bucket_at, times_in, used_slots, AreKept, places_in, is_free_at}
-use Rattle.coap_observe.specs.Places.{Place, Places, watchers_in, is_wanted, IsAt, IsUsed, changed_in, changed_place, with_change, with_changes, without_slot, Finds, FindsFirst}
-use Rattle.coap_observe.specs.Watching.{is_busy, is_free, is_pair, is_named}
+use Rattle.coap_observe.specs.Kept.{observer_at, place_at, endpoint_bucket_at, times_in, used_slots, AreKept, places_in, is_sendable_at}
+use Rattle.coap_observe.specs.Places.{Place, Places, observers_in, is_wanted, IsAt, IsUsed, changed_in, changed_place, with_change, with_changes, without_slot, Finds, FindsFirst}
+use Rattle.coap_observe.specs.Watching.{is_busy, is_sendable, is_pair, is_named}
 use Rattle.coap_observe.specs.Sending.{Sent}
-use Rattle.coap_observe.specs.declared.watcher.Wanted.{Wanted}
-use Rattle.coap_observe.specs.declared.watcher.Wanted.TheVariants.{Any, SentAs, Unacknowledged, Marked}
+use Rattle.coap_observe.specs.declared.observer.SoughtObserver.{SoughtObserver}
+use Rattle.coap_observe.specs.declared.observer.SoughtObserver.TheVariants.{Any, SentAs, Unacknowledged, Marked}
 use Rattle.std.specs.Str.{bytes_eq}
 use Rattle.coap_observe.proofs.Counts.{none_passes, found_passes}
 use Rattle.coap_observe.proofs.SlotLaws.{counted_is_among, dealt_from}
-use Rattle.coap_observe.proofs.KeptLaws.{used_place, watcher_stays, watcher_is, in_its_endpoint}
+use Rattle.coap_observe.proofs.KeptLaws.{used_place, observer_stays, observer_is, in_its_endpoint}
 
 -- ---- mapped lists
 
@@ -80,12 +80,12 @@ one_kept slot (x ∷ xs) h = elim (eqb_tells slot x) [
       rw w.0 (one_kept slot xs (omega arith))
 ]
 
-pub at_place : (n : ℕ) (ws : List Watcher) (o : Lists) (slot : ℕ) → times_in slot (used_slots o) ≡ 1 → IsAt slot (place_at ws slot) (places_in n ws o)
+pub at_place : (n : ℕ) (ws : List Observer) (o : Lists) (slot : ℕ) → times_in slot (used_slots o) ≡ 1 → IsAt slot (place_at ws slot) (places_in n ws o)
 at_place n ws o slot once =
     filter-map (λ (q : Place). slot == q.slot) (place_at ws) (used_slots o) ∙ ap (map (place_at ws)) (one_kept slot (used_slots o) once)
 
 -- a slot with an observer is among those, and its place has the same content
-pub place_used : (n : ℕ) (ws : List Watcher) (o : Lists) (slot : ℕ) (p : Place) → IsAt slot p (places_in n ws o)
+pub place_used : (n : ℕ) (ws : List Observer) (o : Lists) (slot : ℕ) (p : Place) → IsAt slot p (places_in n ws o)
     → (is_among slot (used_slots o) ≡ true) × (p ≡ place_at ws slot)
 place_used n ws o slot p at =
     let mapped : map (place_at ws) (filter (λ s. slot == s) (used_slots o)) ≡ p ∷ []
@@ -97,33 +97,33 @@ place_used n ws o slot p at =
     let both_are : p ∷ [] ≡ place_at ws slot ∷ [] = sym at ∙ here in
     (counted_is_among slot (used_slots o) (omega arith), cc)
 
-pub used_in : (n : ℕ) (ws : List Watcher) (o : Lists) (t : Places) (slot : ℕ) → places_in n ws o ≡ t → IsUsed slot t → is_among slot (used_slots o) ≡ true
+pub used_in : (n : ℕ) (ws : List Observer) (o : Lists) (t : Places) (slot : ℕ) → places_in n ws o ≡ t → IsUsed slot t → is_among slot (used_slots o) ≡ true
 used_in n ws o t slot view used =
     let there : IsAt slot used.0 (places_in n ws o) = subst (λ (u : Places). IsAt slot used.0 u) (sym view) used.1 in
     (place_used n ws o slot used.0 there).0
 
-pub place_in : (n : ℕ) (ws : List Watcher) (o : Lists) (t : Places) (slot : ℕ) (p : Place) → places_in n ws o ≡ t → IsAt slot p t → p.watcher ≡ watcher_at ws slot
+pub place_in : (n : ℕ) (ws : List Observer) (o : Lists) (t : Places) (slot : ℕ) (p : Place) → places_in n ws o ≡ t → IsAt slot p t → p.observer ≡ observer_at ws slot
 place_in n ws o t slot p view at =
     let there : IsAt slot p (places_in n ws o) = subst (λ (u : Places). IsAt slot p u) (sym view) at in
-    ap (λ (q : Place). q.watcher) (place_used n ws o slot p there).1
+    ap (λ (q : Place). q.observer) (place_used n ws o slot p there).1
 
 -- ---- the places after a call
 
-change_at : (ws : List Watcher) (slot : ℕ) (v : Watcher) (f : Watcher → Watcher) (s : ℕ) → slot < length ws → v ≡ f (watcher_at ws slot)
+change_at : (ws : List Observer) (slot : ℕ) (v : Observer) (f : Observer → Observer) (s : ℕ) → slot < length ws → v ≡ f (observer_at ws slot)
     → place_at (set ws slot v) s ≡ changed_in slot f (place_at ws s)
 change_at ws slot v f s below is = elim (eqb_tells slot s) [
   | inl w ↦
-      let now : watcher_at (set ws slot v) s ≡ f (watcher_at ws s)
-      = subst (λ (z : ℕ). watcher_at (set ws slot v) z ≡ f (watcher_at ws z)) w.1 (watcher_is ws slot v below ∙ is) in
-      let same : place_at (set ws slot v) s ≡ record { slot = s; watcher = f (watcher_at ws s) } = λ i. record { slot = s; watcher = now i } in
+      let now : observer_at (set ws slot v) s ≡ f (observer_at ws s)
+      = subst (λ (z : ℕ). observer_at (set ws slot v) z ≡ f (observer_at ws z)) w.1 (observer_is ws slot v below ∙ is) in
+      let same : place_at (set ws slot v) s ≡ record { slot = s; observer = f (observer_at ws s) } = λ i. record { slot = s; observer = now i } in
       rw w.0 same
   | inr w ↦
-      let now : watcher_at (set ws slot v) s ≡ watcher_at ws s = watcher_stays ws slot s v (λ e. w.1 (sym e)) in
-      let same : place_at (set ws slot v) s ≡ place_at ws s = λ i. record { slot = s; watcher = now i } in
+      let now : observer_at (set ws slot v) s ≡ observer_at ws s = observer_stays ws slot s v (λ e. w.1 (sym e)) in
+      let same : place_at (set ws slot v) s ≡ place_at ws s = λ i. record { slot = s; observer = now i } in
       rw w.0 same
 ]
 
-pub seen_changed : (n : ℕ) (ws : List Watcher) (o : Lists) (slot : ℕ) (v : Watcher) (f : Watcher → Watcher) → slot < length ws → v ≡ f (watcher_at ws slot)
+pub seen_changed : (n : ℕ) (ws : List Observer) (o : Lists) (slot : ℕ) (v : Observer) (f : Observer → Observer) → slot < length ws → v ≡ f (observer_at ws slot)
     → places_in n (set ws slot v) o ≡ with_change slot f (places_in n ws o)
 seen_changed n ws o slot v f below is =
     let each : map (place_at (set ws slot v)) (used_slots o) ≡ map (λ s. changed_in slot f (place_at ws s)) (used_slots o)
@@ -132,36 +132,36 @@ seen_changed n ws o slot v f below is =
     = each ∙ sym (map_twice (changed_in slot f) (place_at ws) (used_slots o)) in
     λ i. record { capacity = n; list = all i }
 
-pub seen_all_changed : (n : ℕ) (ws ws2 : List Watcher) (o : Lists) (f : Watcher → Watcher)
-    → ((s : ℕ) → is_among s (used_slots o) ≡ true → watcher_at ws2 s ≡ f (watcher_at ws s)) → places_in n ws2 o ≡ with_changes f (places_in n ws o)
+pub seen_all_changed : (n : ℕ) (ws ws2 : List Observer) (o : Lists) (f : Observer → Observer)
+    → ((s : ℕ) → is_among s (used_slots o) ≡ true → observer_at ws2 s ≡ f (observer_at ws s)) → places_in n ws2 o ≡ with_changes f (places_in n ws o)
 seen_all_changed n ws ws2 o f h =
     let each : map (place_at ws2) (used_slots o) ≡ map (λ s. changed_place f (place_at ws s)) (used_slots o)
-    = map_at (place_at ws2) (λ s. changed_place f (place_at ws s)) (used_slots o) (λ s m. λ i. record { slot = s; watcher = h s m i }) in
+    = map_at (place_at ws2) (λ s. changed_place f (place_at ws s)) (used_slots o) (λ s m. λ i. record { slot = s; observer = h s m i }) in
     let all : map (place_at ws2) (used_slots o) ≡ map (changed_place f) (map (place_at ws) (used_slots o))
     = each ∙ sym (map_twice (changed_place f) (place_at ws) (used_slots o)) in
     λ i. record { capacity = n; list = all i }
 
-pub seen_without : (n : ℕ) (ws : List Watcher) (o o2 : Lists) (slot : ℕ) → used_slots o2 ≡ without slot (used_slots o)
+pub seen_without : (n : ℕ) (ws : List Observer) (o o2 : Lists) (slot : ℕ) → used_slots o2 ≡ without slot (used_slots o)
     → places_in n ws o2 ≡ without_slot slot (places_in n ws o)
 seen_without n ws o o2 slot e =
     let all : map (place_at ws) (used_slots o2) ≡ filter (λ (p : Place). not (slot == p.slot)) (map (place_at ws) (used_slots o))
     = ap (map (place_at ws)) e ∙ sym (filter-map (λ (p : Place). not (slot == p.slot)) (place_at ws) (used_slots o)) in
     λ i. record { capacity = n; list = all i }
 
-pub seen_added : (n : ℕ) (ws : List Watcher) (o o2 : Lists) (slot : ℕ) (v : Watcher) → slot < length ws → is_among slot (used_slots o) ≡ false
+pub seen_added : (n : ℕ) (ws : List Observer) (o o2 : Lists) (slot : ℕ) (v : Observer) → slot < length ws → is_among slot (used_slots o) ≡ false
     → used_slots o2 ≡ used_slots o ++ slot ∷ []
-    → places_in n (set ws slot v) o2 ≡ record (places_in n ws o) { list = (places_in n ws o).list ++ record { slot = slot; watcher = v } ∷ [] }
+    → places_in n (set ws slot v) o2 ≡ record (places_in n ws o) { list = (places_in n ws o).list ++ record { slot = slot; observer = v } ∷ [] }
 seen_added n ws o o2 slot v below hasnt e =
     let before : map (place_at (set ws slot v)) (used_slots o) ≡ map (place_at ws) (used_slots o)
     = map_at (place_at (set ws slot v)) (place_at ws) (used_slots o) (λ s m.
     let other : s ≢ slot = λ same. let has : is_among slot (used_slots o) ≡ true = subst (λ z. is_among z (used_slots o) ≡ true) same m in cc in
-    let now : watcher_at (set ws slot v) s ≡ watcher_at ws s = watcher_stays ws slot s v other in
-    λ i. record { slot = s; watcher = now i }) in
-    let is : watcher_at (set ws slot v) slot ≡ v = watcher_is ws slot v below in
-    let all : map (place_at (set ws slot v)) (used_slots o2) ≡ map (place_at ws) (used_slots o) ++ record { slot = slot; watcher = v } ∷ []
+    let now : observer_at (set ws slot v) s ≡ observer_at ws s = observer_stays ws slot s v other in
+    λ i. record { slot = s; observer = now i }) in
+    let is : observer_at (set ws slot v) slot ≡ v = observer_is ws slot v below in
+    let all : map (place_at (set ws slot v)) (used_slots o2) ≡ map (place_at ws) (used_slots o) ++ record { slot = slot; observer = v } ∷ []
     = ap (map (place_at (set ws slot v))) e
     ∙ (map-append (place_at (set ws slot v)) (used_slots o) (slot ∷ [])
-    ∙ (λ i. before i ++ record { slot = slot; watcher = is i } ∷ [])) in
+    ∙ (λ i. before i ++ record { slot = slot; observer = is i } ∷ [])) in
     λ i. record { capacity = n; list = all i }
 
 -- each bucket is one of n
@@ -175,13 +175,13 @@ target_bucket_below n target some = mod_below target n some
 -- ---- searches
 
 -- whether one passes, by the slots
-pub any_mapped : (test : Watcher → Bool) (n : ℕ) (ws : List Watcher) (o : Lists)
-    → list_any test (watchers_in (places_in n ws o)) ≡ list_any (λ s. test (watcher_at ws s)) (used_slots o)
+pub any_mapped : (test : Observer → Bool) (n : ℕ) (ws : List Observer) (o : Lists)
+    → list_any test (observers_in (places_in n ws o)) ≡ list_any (λ s. test (observer_at ws s)) (used_slots o)
 any_mapped test n ws o = by (used_slots o)
   where
-    by : (xs : List ℕ) → list_any test (map (λ (p : Place). p.watcher) (map (place_at ws) xs)) ≡ list_any (λ s. test (watcher_at ws s)) xs
+    by : (xs : List ℕ) → list_any test (map (λ (p : Place). p.observer) (map (place_at ws) xs)) ≡ list_any (λ s. test (observer_at ws s)) xs
     by [] = refl
-    by (x ∷ xs) = ap (λ b. test (watcher_at ws x) || b) (by xs)
+    by (x ∷ xs) = ap (λ b. test (observer_at ws x) || b) (by xs)
 
 found_among : (p : ℕ → Bool) (xs : List ℕ) (s : ℕ) → find p xs ≡ Some s → is_among s xs ≡ true
 found_among p [] s h = absurd cc
@@ -216,94 +216,94 @@ none_elsewhere p (x ∷ xs) ys h none = elim (cases_Bool (p x)) [
 ]
 
 -- the observer of a slot that is used
-found_at : (test : Watcher → Bool) (n : ℕ) (ws : List Watcher) (o t e : Lists) (slot : ℕ) → AreKept n ws o t e → is_among slot (used_slots o) ≡ true
-    → test (watcher_at ws slot) ≡ true → Finds test (places_in n ws o) (Some slot)
+found_at : (test : Observer → Bool) (n : ℕ) (ws : List Observer) (o t e : Lists) (slot : ℕ) → AreKept n ws o t e → is_among slot (used_slots o) ≡ true
+    → test (observer_at ws slot) ≡ true → Finds test (places_in n ws o) (Some slot)
 found_at test n ws o t e slot kept has passes = (place_at ws slot, at_place n ws o slot (used_place n ws o t e slot kept has).1, passes)
 
 -- an observer that is found in the list of an endpoint's bucket is found among all, where only those of the endpoint
 -- pass
-pub found_in_bucket : (test : Watcher → Bool) (from : Endpoint) (n : ℕ) (ws : List Watcher) (o t e : Lists) (r : Option ℕ) → AreKept n ws o t e
-    → ((w : Watcher) → test w ≡ true → is_same_endpoint from w.from ≡ true) → endpoint_bucket n from < n
-    → r ≡ find (λ s. test (watcher_at ws s)) (list_at (endpoint_bucket n from) e) → Finds test (places_in n ws o) r
+pub found_in_bucket : (test : Observer → Bool) (from : Endpoint) (n : ℕ) (ws : List Observer) (o t e : Lists) (r : Option ℕ) → AreKept n ws o t e
+    → ((w : Observer) → test w ≡ true → is_same_endpoint from w.from ≡ true) → endpoint_bucket n from < n
+    → r ≡ find (λ s. test (observer_at ws s)) (list_at (endpoint_bucket n from) e) → Finds test (places_in n ws o) r
 found_in_bucket test from n ws o t e None kept only below is =
     any_mapped test n ws o
-    ∙ none_elsewhere (λ s. test (watcher_at ws s)) (used_slots o) (list_at (endpoint_bucket n from) e)
+    ∙ none_elsewhere (λ s. test (observer_at ws s)) (used_slots o) (list_at (endpoint_bucket n from) e)
     (λ s m passes.
-    let same : from ≡ (watcher_at ws s).from = same_endpoint from (watcher_at ws s).from (only (watcher_at ws s) passes) in
+    let same : from ≡ (observer_at ws s).from = same_endpoint from (observer_at ws s).from (only (observer_at ws s) passes) in
     let bucket : endpoint_bucket_at n ws s ≡ endpoint_bucket n from = ap (endpoint_bucket n) (sym same) in
     subst (λ z. is_among s (list_at z e) ≡ true) bucket
     (in_its_endpoint n ws o t e s kept m (subst (λ z. z < n) (sym bucket) below)))
-    (none_passes (λ s. test (watcher_at ws s)) (list_at (endpoint_bucket n from) e) (sym is))
+    (none_passes (λ s. test (observer_at ws s)) (list_at (endpoint_bucket n from) e) (sym is))
 found_in_bucket test from n ws o t e (Some slot) kept only below is =
-    let passes : test (watcher_at ws slot) ≡ true = found_passes (λ s. test (watcher_at ws s)) (list_at (endpoint_bucket n from) e) slot (sym is) in
-    let there : is_among slot (list_at (endpoint_bucket n from) e) ≡ true = found_among (λ s. test (watcher_at ws s)) (list_at (endpoint_bucket n from) e) slot (sym is) in
+    let passes : test (observer_at ws slot) ≡ true = found_passes (λ s. test (observer_at ws s)) (list_at (endpoint_bucket n from) e) slot (sym is) in
+    let there : is_among slot (list_at (endpoint_bucket n from) e) ≡ true = found_among (λ s. test (observer_at ws s)) (list_at (endpoint_bucket n from) e) slot (sym is) in
     let used : 1 ≤ times_in slot (used_slots o)
     = dealt_from (endpoint_bucket_at n ws) (used_slots o) e.lists slot (endpoint_bucket n from) kept.by_endpoint (omega (arith, kept.endpoints_count)) there in
     found_at test n ws o t e slot kept (counted_is_among slot (used_slots o) used) passes
 
 -- the first that is found in the list of all
-pub found_first : (test : Watcher → Bool) (n : ℕ) (ws : List Watcher) (o t e : Lists) (r : Option ℕ) → AreKept n ws o t e
-    → r ≡ find (λ s. test (watcher_at ws s)) (used_slots o) → FindsFirst test (places_in n ws o) r
+pub found_first : (test : Observer → Bool) (n : ℕ) (ws : List Observer) (o t e : Lists) (r : Option ℕ) → AreKept n ws o t e
+    → r ≡ find (λ s. test (observer_at ws s)) (used_slots o) → FindsFirst test (places_in n ws o) r
 found_first test n ws o t e None kept is =
-    any_mapped test n ws o ∙ none_passes (λ s. test (watcher_at ws s)) (used_slots o) (sym is)
+    any_mapped test n ws o ∙ none_passes (λ s. test (observer_at ws s)) (used_slots o) (sym is)
 found_first test n ws o t e (Some slot) kept is =
-    let has : is_among slot (used_slots o) ≡ true = found_among (λ s. test (watcher_at ws s)) (used_slots o) slot (sym is) in (
+    let has : is_among slot (used_slots o) ≡ true = found_among (λ s. test (observer_at ws s)) (used_slots o) slot (sym is) in (
       place_at ws slot,
       at_place n ws o slot (used_place n ws o t e slot kept has).1,
-      find-map (λ (q : Place). test q.watcher) (place_at ws) (used_slots o) ∙ ap (option_map (place_at ws)) (sym is),
+      find-map (λ (q : Place). test q.observer) (place_at ws) (used_slots o) ∙ ap (option_map (place_at ws)) (sym is),
     )
 
 -- whether an endpoint has something that isn't acknowledged, by its bucket
-busy_by : (from : Endpoint) (n : ℕ) (ws : List Watcher) (o t e : Lists) (r : Option ℕ) → AreKept n ws o t e → endpoint_bucket n from < n
-    → r ≡ find (λ s. is_busy from (watcher_at ws s)) (list_at (endpoint_bucket n from) e) → is_some r ≡ list_any (is_busy from) (watchers_in (places_in n ws o))
+busy_by : (from : Endpoint) (n : ℕ) (ws : List Observer) (o t e : Lists) (r : Option ℕ) → AreKept n ws o t e → endpoint_bucket n from < n
+    → r ≡ find (λ s. is_busy from (observer_at ws s)) (list_at (endpoint_bucket n from) e) → is_some r ≡ list_any (is_busy from) (observers_in (places_in n ws o))
 busy_by from n ws o t e None kept below is =
     sym (found_in_bucket (is_busy from) from n ws o t e None kept (λ w b. (both (is_some w.notification) (is_same_endpoint from w.from) b).1) below is)
 busy_by from n ws o t e (Some slot) kept below is =
-    let passes : is_busy from (watcher_at ws slot) ≡ true = found_passes (λ s. is_busy from (watcher_at ws s)) (list_at (endpoint_bucket n from) e) slot (sym is) in
-    let there : is_among slot (list_at (endpoint_bucket n from) e) ≡ true = found_among (λ s. is_busy from (watcher_at ws s)) (list_at (endpoint_bucket n from) e) slot (sym is) in
+    let passes : is_busy from (observer_at ws slot) ≡ true = found_passes (λ s. is_busy from (observer_at ws s)) (list_at (endpoint_bucket n from) e) slot (sym is) in
+    let there : is_among slot (list_at (endpoint_bucket n from) e) ≡ true = found_among (λ s. is_busy from (observer_at ws s)) (list_at (endpoint_bucket n from) e) slot (sym is) in
     let used : 1 ≤ times_in slot (used_slots o)
     = dealt_from (endpoint_bucket_at n ws) (used_slots o) e.lists slot (endpoint_bucket n from) kept.by_endpoint (omega (arith, kept.endpoints_count)) there in
-    sym (any_mapped (is_busy from) n ws o ∙ any_among (λ s. is_busy from (watcher_at ws s)) slot (used_slots o) (counted_is_among slot (used_slots o) used) passes)
+    sym (any_mapped (is_busy from) n ws o ∙ any_among (λ s. is_busy from (observer_at ws s)) slot (used_slots o) (counted_is_among slot (used_slots o) used) passes)
 
-pub free_by : (n : ℕ) (ws : List Watcher) (o t e : Lists) → AreKept n ws o t e → ((from : Endpoint) → endpoint_bucket n from < n)
-    → (w : Watcher) → is_free_at e ws n w ≡ is_free (watchers_in (places_in n ws o)) w
+pub free_by : (n : ℕ) (ws : List Observer) (o t e : Lists) → AreKept n ws o t e → ((from : Endpoint) → endpoint_bucket n from < n)
+    → (w : Observer) → is_sendable_at e ws n w ≡ is_sendable (observers_in (places_in n ws o)) w
 free_by n ws o t e kept below w =
-    ap (λ b. w.is_marked && not b) (busy_by w.from n ws o t e (find (λ s. is_busy w.from (watcher_at ws s)) (list_at (endpoint_bucket n w.from) e)) kept (below w.from) refl)
+    ap (λ b. w.is_marked && not b) (busy_by w.from n ws o t e (find (λ s. is_busy w.from (observer_at ws s)) (list_at (endpoint_bucket n w.from) e)) kept (below w.from) refl)
 
-pub found_free : (n : ℕ) (ws : List Watcher) (o t e : Lists) (r : Option ℕ) → AreKept n ws o t e → ((from : Endpoint) → endpoint_bucket n from < n)
-    → r ≡ find (λ s. is_free_at e ws n (watcher_at ws s)) (used_slots o) → FindsFirst (is_free (watchers_in (places_in n ws o))) (places_in n ws o) r
+pub found_free : (n : ℕ) (ws : List Observer) (o t e : Lists) (r : Option ℕ) → AreKept n ws o t e → ((from : Endpoint) → endpoint_bucket n from < n)
+    → r ≡ find (λ s. is_sendable_at e ws n (observer_at ws s)) (used_slots o) → FindsFirst (is_sendable (observers_in (places_in n ws o))) (places_in n ws o) r
 found_free n ws o t e r kept below is =
-    let same : find (λ s. is_free_at e ws n (watcher_at ws s)) (used_slots o) ≡ find (λ s. is_free (watchers_in (places_in n ws o)) (watcher_at ws s)) (used_slots o)
-    = λ i. find (λ s. free_by n ws o t e kept below (watcher_at ws s) i) (used_slots o) in
-    found_first (is_free (watchers_in (places_in n ws o))) n ws o t e r kept (is ∙ same)
+    let same : find (λ s. is_sendable_at e ws n (observer_at ws s)) (used_slots o) ≡ find (λ s. is_sendable (observers_in (places_in n ws o)) (observer_at ws s)) (used_slots o)
+    = λ i. find (λ s. free_by n ws o t e kept below (observer_at ws s) i) (used_slots o) in
+    found_first (is_sendable (observers_in (places_in n ws o))) n ws o t e r kept (is ∙ same)
 
 -- ---- the same, as the code's calls give it
 
-pub searched : (test : Watcher → Bool) (from : Endpoint) (n : ℕ) (ws ws2 : List Watcher) (o t e : Lists) (bucket : ℕ) (r : Option ℕ) → AreKept n ws o t e
-    → ((w : Watcher) → test w ≡ true → is_same_endpoint from w.from ≡ true) → ws2 ≡ ws → bucket ≡ endpoint_bucket n from → bucket < n
-    → r ≡ find (λ s. test (watcher_at ws2 s)) (list_at bucket e) → Finds test (places_in n ws o) r
+pub searched : (test : Observer → Bool) (from : Endpoint) (n : ℕ) (ws ws2 : List Observer) (o t e : Lists) (bucket : ℕ) (r : Option ℕ) → AreKept n ws o t e
+    → ((w : Observer) → test w ≡ true → is_same_endpoint from w.from ≡ true) → ws2 ≡ ws → bucket ≡ endpoint_bucket n from → bucket < n
+    → r ≡ find (λ s. test (observer_at ws2 s)) (list_at bucket e) → Finds test (places_in n ws o) r
 searched test from n ws ws2 o t e bucket r kept only same is below found =
     found_in_bucket test from n ws o t e r kept only (subst (λ b. b < n) is below)
-    (found ∙ ((λ i. find (λ s. test (watcher_at (same i) s)) (list_at (is i) e))))
+    (found ∙ ((λ i. find (λ s. test (observer_at (same i) s)) (list_at (is i) e))))
 
-pub searched_first : (test : Watcher → Bool) (n : ℕ) (ws ws2 : List Watcher) (o t e : Lists) (r : Option ℕ) → AreKept n ws o t e → ws2 ≡ ws
-    → r ≡ find (λ s. test (watcher_at ws2 s)) (used_slots o) → FindsFirst test (places_in n ws o) r
+pub searched_first : (test : Observer → Bool) (n : ℕ) (ws ws2 : List Observer) (o t e : Lists) (r : Option ℕ) → AreKept n ws o t e → ws2 ≡ ws
+    → r ≡ find (λ s. test (observer_at ws2 s)) (used_slots o) → FindsFirst test (places_in n ws o) r
 searched_first test n ws ws2 o t e r kept same found =
-    found_first test n ws o t e r kept (found ∙ (λ i. find (λ s. test (watcher_at (same i) s)) (used_slots o)))
+    found_first test n ws o t e r kept (found ∙ (λ i. find (λ s. test (observer_at (same i) s)) (used_slots o)))
 
-pub searched_free : (n : ℕ) (ws ws2 : List Watcher) (o t e : Lists) (r : Option ℕ) → AreKept n ws o t e → ws2 ≡ ws
-    → r ≡ find (λ s. is_free_at e ws2 n (watcher_at ws2 s)) (used_slots o) → FindsFirst (is_free (watchers_in (places_in n ws o))) (places_in n ws o) r
+pub searched_free : (n : ℕ) (ws ws2 : List Observer) (o t e : Lists) (r : Option ℕ) → AreKept n ws o t e → ws2 ≡ ws
+    → r ≡ find (λ s. is_sendable_at e ws2 n (observer_at ws2 s)) (used_slots o) → FindsFirst (is_sendable (observers_in (places_in n ws o))) (places_in n ws o) r
 searched_free n ws ws2 o t e r kept same found =
     found_free n ws o t e r kept (λ from. endpoint_bucket_below n from kept.some)
-    (found ∙ (λ i. find (λ s. is_free_at e (same i) n (watcher_at (same i) s)) (used_slots o)))
+    (found ∙ (λ i. find (λ s. is_sendable_at e (same i) n (observer_at (same i) s)) (used_slots o)))
 
-pub none_among : (test : Watcher → Bool) (n : ℕ) (ws ws2 : List Watcher) (o : Lists) → ws2 ≡ ws
-    → list_any (λ s. test (watcher_at ws2 s)) (used_slots o) ≡ false → list_any test (watchers_in (places_in n ws o)) ≡ false
+pub none_among : (test : Observer → Bool) (n : ℕ) (ws ws2 : List Observer) (o : Lists) → ws2 ≡ ws
+    → list_any (λ s. test (observer_at ws2 s)) (used_slots o) ≡ false → list_any test (observers_in (places_in n ws o)) ≡ false
 none_among test n ws ws2 o same none =
-    any_mapped test n ws o ∙ ((λ i. list_any (λ s. test (watcher_at (sym same i) s)) (used_slots o)) ∙ none)
+    any_mapped test n ws o ∙ ((λ i. list_any (λ s. test (observer_at (sym same i) s)) (used_slots o)) ∙ none)
 
 -- an observer that is wanted is of the endpoint
-pub wanted_is_from : (from : Endpoint) (wanted : Wanted) (w : Watcher) → is_wanted from wanted w ≡ true → is_same_endpoint from w.from ≡ true
+pub wanted_is_from : (from : Endpoint) (wanted : SoughtObserver) (w : Observer) → is_wanted from wanted w ≡ true → is_same_endpoint from w.from ≡ true
 wanted_is_from from Any w e = e
 wanted_is_from from (SentAs id) w e = named from id w.from w.notification e
   where
@@ -313,14 +313,14 @@ wanted_is_from from (SentAs id) w e = named from id w.from w.notification e
 wanted_is_from from Unacknowledged w e = (both (is_some w.notification) (is_same_endpoint from w.from) e).1
 wanted_is_from from Marked w e = (both (is_same_endpoint from w.from) w.is_marked e).0
 
-pub pair_is_from : (from : Endpoint) (token : List ℕ) (w : Watcher) → is_pair from token w ≡ true → is_same_endpoint from w.from ≡ true
+pub pair_is_from : (from : Endpoint) (token : List ℕ) (w : Observer) → is_pair from token w ≡ true → is_same_endpoint from w.from ≡ true
 pair_is_from from token w e = (both (is_same_endpoint from w.from) (bytes_eq token w.token) e).0
 
 -- a slot with an observer is one of the list's places
-pub slot_below : (n : ℕ) (ws : List Watcher) (o t e : Lists) (seen : Places) (slot : ℕ) → AreKept n ws o t e → places_in n ws o ≡ seen → IsUsed slot seen → slot < length ws
+pub slot_below : (n : ℕ) (ws : List Observer) (o t e : Lists) (seen : Places) (slot : ℕ) → AreKept n ws o t e → places_in n ws o ≡ seen → IsUsed slot seen → slot < length ws
 slot_below n ws o t e seen slot kept view used =
     let place = used_place n ws o t e slot kept (used_in n ws o seen slot view used) in
-    omega (arith, kept.watchers_count, place.0)
+    omega (arith, kept.observers_count, place.0)
 
-pub slot_within : (n : ℕ) (ws : List Watcher) (o t e : Lists) (seen : Places) (slot : ℕ) → AreKept n ws o t e → places_in n ws o ≡ seen → IsUsed slot seen → slot < n
+pub slot_within : (n : ℕ) (ws : List Observer) (o t e : Lists) (seen : Places) (slot : ℕ) → AreKept n ws o t e → places_in n ws o ≡ seen → IsUsed slot seen → slot < n
 slot_within n ws o t e seen slot kept view used = (used_place n ws o t e slot kept (used_in n ws o seen slot view used)).0

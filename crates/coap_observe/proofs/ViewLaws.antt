@@ -3,8 +3,8 @@ use Rattle.std.proofs.Common.{◌≡◌, ◌<◌, ◌≤◌, ◌==◌, ◌&&◌,
 use Rattle.std.specs.List.{find, filter, list_any, AllByRecursion}
 use Rattle.std.proofs.lemmas.Bool.{cases_Bool}
 use Rattle.std.proofs.lemmas.List.{length-map}
-use Rattle.coap_observe.specs.declared.watcher.Watcher.{Watcher}
-use Rattle.coap_observe.specs.Places.{Place, Places, watchers_in, IsAt, changed_in, changed_place, with_change, with_changes, without_slot, Finds}
+use Rattle.coap_observe.specs.declared.observer.Observer.{Observer}
+use Rattle.coap_observe.specs.Places.{Place, Places, observers_in, IsAt, changed_in, changed_place, with_change, with_changes, without_slot, Finds}
 use Rattle.coap_observe.specs.Watching.{where_so, with_first}
 use Rattle.coap_msg.proofs.SameEndpoints.{both}
 use Rattle.coap_observe.proofs.Changed.{fewer}
@@ -107,147 +107,147 @@ none_found p (y ∷ ys) e = at (p y) e (none_found p ys)
 
 -- ---- the observer that passes a test which few pass, by its slot
 
-agree : (test : Watcher → Bool) (t : Places) (slot : ℕ) (p : Place) → IsAt slot p t → test p.watcher ≡ true → length (filter test (watchers_in t)) ≤ 1
-    → AllByRecursion (λ q. (slot == q.slot) ≡ test q.watcher) t.list
+agree : (test : Observer → Bool) (t : Places) (slot : ℕ) (p : Place) → IsAt slot p t → test p.observer ≡ true → length (filter test (observers_in t)) ≤ 1
+    → AllByRecursion (λ q. (slot == q.slot) ≡ test q.observer) t.list
 agree test t slot p at passes few =
-    let count : length (filter test (watchers_in t)) ≡ length (filter (λ q. test q.watcher) t.list)
-    = ap length (filter-map test (λ (q : Place). q.watcher) t.list) ∙ length-map (filter (λ q. test q.watcher) t.list) (λ (q : Place). q.watcher) in
-    let one : filter (λ q. test q.watcher) t.list ≡ p ∷ [] = only_one (λ q. slot == q.slot) (λ q. test q.watcher) t.list p at passes (omega arith) in
-    one_both (λ q. slot == q.slot) (λ q. test q.watcher) t.list p at one
+    let count : length (filter test (observers_in t)) ≡ length (filter (λ q. test q.observer) t.list)
+    = ap length (filter-map test (λ (q : Place). q.observer) t.list) ∙ length-map (filter (λ q. test q.observer) t.list) (λ (q : Place). q.observer) in
+    let one : filter (λ q. test q.observer) t.list ≡ p ∷ [] = only_one (λ q. slot == q.slot) (λ q. test q.observer) t.list p at passes (omega arith) in
+    one_both (λ q. slot == q.slot) (λ q. test q.observer) t.list p at one
 
-changed_one : (test : Watcher → Bool) (f : Watcher → Watcher) (slot : ℕ) (ps : List Place) → AllByRecursion (λ q. (slot == q.slot) ≡ test q.watcher) ps
-    → map (λ (q : Place). q.watcher) (map (changed_in slot f) ps) ≡ map (where_so test f) (map (λ (q : Place). q.watcher) ps)
+changed_one : (test : Observer → Bool) (f : Observer → Observer) (slot : ℕ) (ps : List Place) → AllByRecursion (λ q. (slot == q.slot) ≡ test q.observer) ps
+    → map (λ (q : Place). q.observer) (map (changed_in slot f) ps) ≡ map (where_so test f) (map (λ (q : Place). q.observer) ps)
 changed_one test f slot [] h = refl
 changed_one test f slot (q ∷ qs) h =
-    let here : (changed_in slot f q).watcher ≡ where_so test f q.watcher = at (slot == q.slot) (test q.watcher) h.0 in
+    let here : (changed_in slot f q).observer ≡ where_so test f q.observer = at (slot == q.slot) (test q.observer) h.0 in
     λ i. here i ∷ changed_one test f slot qs h.1 i
   where
-    at : (b c : Bool) → b ≡ c → (cond b (record q { watcher = f q.watcher }) q).watcher ≡ cond c (f q.watcher) q.watcher
+    at : (b c : Bool) → b ≡ c → (cond b (record q { observer = f q.observer }) q).observer ≡ cond c (f q.observer) q.observer
     at true true e = refl
     at true false e = absurd cc
     at false true e = absurd cc
     at false false e = refl
 
-removed_one : (test : Watcher → Bool) (slot : ℕ) (ps : List Place) → AllByRecursion (λ q. (slot == q.slot) ≡ test q.watcher) ps
-    → map (λ (q : Place). q.watcher) (filter (λ q. not (slot == q.slot)) ps) ≡ filter (λ w. not (test w)) (map (λ (q : Place). q.watcher) ps)
+removed_one : (test : Observer → Bool) (slot : ℕ) (ps : List Place) → AllByRecursion (λ q. (slot == q.slot) ≡ test q.observer) ps
+    → map (λ (q : Place). q.observer) (filter (λ q. not (slot == q.slot)) ps) ≡ filter (λ w. not (test w)) (map (λ (q : Place). q.observer) ps)
 removed_one test slot [] h = refl
-removed_one test slot (q ∷ qs) h = at (slot == q.slot) (test q.watcher) h.0 (removed_one test slot qs h.1)
+removed_one test slot (q ∷ qs) h = at (slot == q.slot) (test q.observer) h.0 (removed_one test slot qs h.1)
   where
-    at : (b c : Bool) → b ≡ c → map (λ (r : Place). r.watcher) (filter (λ r. not (slot == r.slot)) qs) ≡ filter (λ w. not (test w)) (map (λ (r : Place). r.watcher) qs)
-        → map (λ (r : Place). r.watcher) (cond (not b) (q ∷ filter (λ r. not (slot == r.slot)) qs) (filter (λ r. not (slot == r.slot)) qs))
-        ≡ cond (not c) (q.watcher ∷ filter (λ w. not (test w)) (map (λ (r : Place). r.watcher) qs)) (filter (λ w. not (test w)) (map (λ (r : Place). r.watcher) qs))
+    at : (b c : Bool) → b ≡ c → map (λ (r : Place). r.observer) (filter (λ r. not (slot == r.slot)) qs) ≡ filter (λ w. not (test w)) (map (λ (r : Place). r.observer) qs)
+        → map (λ (r : Place). r.observer) (cond (not b) (q ∷ filter (λ r. not (slot == r.slot)) qs) (filter (λ r. not (slot == r.slot)) qs))
+        ≡ cond (not c) (q.observer ∷ filter (λ w. not (test w)) (map (λ (r : Place). r.observer) qs)) (filter (λ w. not (test w)) (map (λ (r : Place). r.observer) qs))
     at true true e rest = rest
     at true false e rest = absurd cc
     at false true e rest = absurd cc
-    at false false e rest = ap (λ l. q.watcher ∷ l) rest
+    at false false e rest = ap (λ l. q.observer ∷ l) rest
 
-pub changed_unique : (test : Watcher → Bool) (f : Watcher → Watcher) (t : Places) (slot : ℕ) (p : Place) → IsAt slot p t → test p.watcher ≡ true
-    → length (filter test (watchers_in t)) ≤ 1 → watchers_in (with_change slot f t) ≡ map (where_so test f) (watchers_in t)
+pub changed_unique : (test : Observer → Bool) (f : Observer → Observer) (t : Places) (slot : ℕ) (p : Place) → IsAt slot p t → test p.observer ≡ true
+    → length (filter test (observers_in t)) ≤ 1 → observers_in (with_change slot f t) ≡ map (where_so test f) (observers_in t)
 changed_unique test f t slot p at passes few = changed_one test f slot t.list (agree test t slot p at passes few)
 
-pub removed_unique : (test : Watcher → Bool) (t : Places) (slot : ℕ) (p : Place) → IsAt slot p t → test p.watcher ≡ true
-    → length (filter test (watchers_in t)) ≤ 1 → watchers_in (without_slot slot t) ≡ filter (λ w. not (test w)) (watchers_in t)
+pub removed_unique : (test : Observer → Bool) (t : Places) (slot : ℕ) (p : Place) → IsAt slot p t → test p.observer ≡ true
+    → length (filter test (observers_in t)) ≤ 1 → observers_in (without_slot slot t) ≡ filter (λ w. not (test w)) (observers_in t)
 removed_unique test t slot p at passes few = removed_one test slot t.list (agree test t slot p at passes few)
 
-pub found_unique : (test : Watcher → Bool) (t : Places) (slot : ℕ) (p : Place) → IsAt slot p t → test p.watcher ≡ true
-    → length (filter test (watchers_in t)) ≤ 1 → find test (watchers_in t) ≡ Some p.watcher
+pub found_unique : (test : Observer → Bool) (t : Places) (slot : ℕ) (p : Place) → IsAt slot p t → test p.observer ≡ true
+    → length (filter test (observers_in t)) ≤ 1 → find test (observers_in t) ≡ Some p.observer
 found_unique test t slot p at passes few =
-    let count : length (filter test (watchers_in t)) ≡ length (filter (λ q. test q.watcher) t.list)
-    = ap length (filter-map test (λ (q : Place). q.watcher) t.list) ∙ length-map (filter (λ q. test q.watcher) t.list) (λ (q : Place). q.watcher) in
-    let one : filter (λ q. test q.watcher) t.list ≡ p ∷ [] = only_one (λ q. slot == q.slot) (λ q. test q.watcher) t.list p at passes (omega arith) in
-    find-map test (λ (q : Place). q.watcher) t.list ∙ ap (option_map (λ (q : Place). q.watcher)) (found_in_filter (λ q. test q.watcher) t.list p [] one)
+    let count : length (filter test (observers_in t)) ≡ length (filter (λ q. test q.observer) t.list)
+    = ap length (filter-map test (λ (q : Place). q.observer) t.list) ∙ length-map (filter (λ q. test q.observer) t.list) (λ (q : Place). q.observer) in
+    let one : filter (λ q. test q.observer) t.list ≡ p ∷ [] = only_one (λ q. slot == q.slot) (λ q. test q.observer) t.list p at passes (omega arith) in
+    find-map test (λ (q : Place). q.observer) t.list ∙ ap (option_map (λ (q : Place). q.observer)) (found_in_filter (λ q. test q.observer) t.list p [] one)
 
 -- ---- the first observer that passes a test, by its slot
 
-untouched : (f : Watcher → Watcher) (slot : ℕ) (ps : List Place) → filter (λ q. slot == q.slot) ps ≡ []
-    → map (λ (q : Place). q.watcher) (map (changed_in slot f) ps) ≡ map (λ (q : Place). q.watcher) ps
+untouched : (f : Observer → Observer) (slot : ℕ) (ps : List Place) → filter (λ q. slot == q.slot) ps ≡ []
+    → map (λ (q : Place). q.observer) (map (changed_in slot f) ps) ≡ map (λ (q : Place). q.observer) ps
 untouched f slot [] h = refl
 untouched f slot (q ∷ qs) h = at (slot == q.slot) h (untouched f slot qs)
   where
     at : (b : Bool) → cond b (q ∷ filter (λ r. slot == r.slot) qs) (filter (λ r. slot == r.slot) qs) ≡ []
-        → (filter (λ r. slot == r.slot) qs ≡ [] → map (λ (r : Place). r.watcher) (map (changed_in slot f) qs) ≡ map (λ (r : Place). r.watcher) qs)
-        → (cond b (record q { watcher = f q.watcher }) q).watcher ∷ map (λ (r : Place). r.watcher) (map (changed_in slot f) qs) ≡ q.watcher ∷ map (λ (r : Place). r.watcher) qs
+        → (filter (λ r. slot == r.slot) qs ≡ [] → map (λ (r : Place). r.observer) (map (changed_in slot f) qs) ≡ map (λ (r : Place). r.observer) qs)
+        → (cond b (record q { observer = f q.observer }) q).observer ∷ map (λ (r : Place). r.observer) (map (changed_in slot f) qs) ≡ q.observer ∷ map (λ (r : Place). r.observer) qs
     at true h rec = absurd cc
-    at false h rec = ap (λ l. q.watcher ∷ l) (rec h)
+    at false h rec = ap (λ l. q.observer ∷ l) (rec h)
 
-first_changed : (test : Watcher → Bool) (f : Watcher → Watcher) (slot : ℕ) (ps : List Place) (p : Place) → filter (λ q. slot == q.slot) ps ≡ p ∷ []
-    → find (λ q. test q.watcher) ps ≡ Some p
-    → map (λ (q : Place). q.watcher) (map (changed_in slot f) ps) ≡ with_first test f (map (λ (q : Place). q.watcher) ps)
+first_changed : (test : Observer → Bool) (f : Observer → Observer) (slot : ℕ) (ps : List Place) (p : Place) → filter (λ q. slot == q.slot) ps ≡ p ∷ []
+    → find (λ q. test q.observer) ps ≡ Some p
+    → map (λ (q : Place). q.observer) (map (changed_in slot f) ps) ≡ with_first test f (map (λ (q : Place). q.observer) ps)
 first_changed test f slot [] p at found = absurd cc
-first_changed test f slot (q ∷ qs) p at found = go (slot == q.slot) (test q.watcher) refl refl at found (first_changed test f slot qs p) (untouched f slot qs)
+first_changed test f slot (q ∷ qs) p at found = go (slot == q.slot) (test q.observer) refl refl at found (first_changed test f slot qs p) (untouched f slot qs)
   where
-    go : (b c : Bool) → (slot == q.slot) ≡ b → test q.watcher ≡ c
-        → cond b (q ∷ filter (λ r. slot == r.slot) qs) (filter (λ r. slot == r.slot) qs) ≡ p ∷ [] → cond c (Some q) (find (λ r. test r.watcher) qs) ≡ Some p
-        → (filter (λ r. slot == r.slot) qs ≡ p ∷ [] → find (λ r. test r.watcher) qs ≡ Some p
-        → map (λ (r : Place). r.watcher) (map (changed_in slot f) qs) ≡ with_first test f (map (λ (r : Place). r.watcher) qs))
-        → (filter (λ r. slot == r.slot) qs ≡ [] → map (λ (r : Place). r.watcher) (map (changed_in slot f) qs) ≡ map (λ (r : Place). r.watcher) qs)
-        → (cond b (record q { watcher = f q.watcher }) q).watcher ∷ map (λ (r : Place). r.watcher) (map (changed_in slot f) qs)
-        ≡ cond c (f q.watcher ∷ map (λ (r : Place). r.watcher) qs) (q.watcher ∷ with_first test f (map (λ (r : Place). r.watcher) qs))
+    go : (b c : Bool) → (slot == q.slot) ≡ b → test q.observer ≡ c
+        → cond b (q ∷ filter (λ r. slot == r.slot) qs) (filter (λ r. slot == r.slot) qs) ≡ p ∷ [] → cond c (Some q) (find (λ r. test r.observer) qs) ≡ Some p
+        → (filter (λ r. slot == r.slot) qs ≡ p ∷ [] → find (λ r. test r.observer) qs ≡ Some p
+        → map (λ (r : Place). r.observer) (map (changed_in slot f) qs) ≡ with_first test f (map (λ (r : Place). r.observer) qs))
+        → (filter (λ r. slot == r.slot) qs ≡ [] → map (λ (r : Place). r.observer) (map (changed_in slot f) qs) ≡ map (λ (r : Place). r.observer) qs)
+        → (cond b (record q { observer = f q.observer }) q).observer ∷ map (λ (r : Place). r.observer) (map (changed_in slot f) qs)
+        ≡ cond c (f q.observer ∷ map (λ (r : Place). r.observer) qs) (q.observer ∷ with_first test f (map (λ (r : Place). r.observer) qs))
     go true true g h at found rec rest =
         let none : filter (λ r. slot == r.slot) qs ≡ [] = cc in
-        ap (λ l. f q.watcher ∷ l) (rest none)
+        ap (λ l. f q.observer ∷ l) (rest none)
     go true false g h at found rec rest =
         let same : q ≡ p = cc in
-        let passes : test p.watcher ≡ true = found_passes (λ (r : Place). test r.watcher) qs p found in
-        let fails : test p.watcher ≡ false = subst (λ (z : Place). test z.watcher ≡ false) same h in
+        let passes : test p.observer ≡ true = found_passes (λ (r : Place). test r.observer) qs p found in
+        let fails : test p.observer ≡ false = subst (λ (z : Place). test z.observer ≡ false) same h in
         absurd cc
     go false true g h at found rec rest =
         let same : q ≡ p = cc in
         let passes : (slot == p.slot) ≡ true = passes_first (λ (r : Place). slot == r.slot) qs p [] at in
         let fails : (slot == p.slot) ≡ false = subst (λ (z : Place). (slot == z.slot) ≡ false) same g in
         absurd cc
-    go false false g h at found rec rest = ap (λ l. q.watcher ∷ l) (rec at found)
+    go false false g h at found rec rest = ap (λ l. q.observer ∷ l) (rec at found)
 
-pub changed_first : (test : Watcher → Bool) (f : Watcher → Watcher) (t : Places) (slot : ℕ) (p : Place) → IsAt slot p t → find (λ q. test q.watcher) t.list ≡ Some p
-    → watchers_in (with_change slot f t) ≡ with_first test f (watchers_in t)
+pub changed_first : (test : Observer → Bool) (f : Observer → Observer) (t : Places) (slot : ℕ) (p : Place) → IsAt slot p t → find (λ q. test q.observer) t.list ≡ Some p
+    → observers_in (with_change slot f t) ≡ with_first test f (observers_in t)
 changed_first test f t slot p at found = first_changed test f slot t.list p at found
 
-pub found_watcher : (test : Watcher → Bool) (t : Places) (p : Place) → find (λ q. test q.watcher) t.list ≡ Some p → find test (watchers_in t) ≡ Some p.watcher
-found_watcher test t p found = find-map test (λ (q : Place). q.watcher) t.list ∙ ap (option_map (λ (q : Place). q.watcher)) found
+pub found_observer : (test : Observer → Bool) (t : Places) (p : Place) → find (λ q. test q.observer) t.list ≡ Some p → find test (observers_in t) ≡ Some p.observer
+found_observer test t p found = find-map test (λ (q : Place). q.observer) t.list ∙ ap (option_map (λ (q : Place). q.observer)) found
 
 -- ---- all observers are changed
 
-pub changed_all : (f : Watcher → Watcher) (t : Places) → watchers_in (with_changes f t) ≡ map f (watchers_in t)
+pub changed_all : (f : Observer → Observer) (t : Places) → observers_in (with_changes f t) ≡ map f (observers_in t)
 changed_all f t =
-    map_twice (λ (q : Place). q.watcher) (changed_place f) t.list ∙ sym (map_twice f (λ (q : Place). q.watcher) t.list)
+    map_twice (λ (q : Place). q.observer) (changed_place f) t.list ∙ sym (map_twice f (λ (q : Place). q.observer) t.list)
 
 -- ---- an observer of those that pass a test is taken away, and all of them later
 
-gone_anyway : (test : Watcher → Bool) (slot : ℕ) (ps : List Place) → AllByRecursion (λ q. (slot == q.slot) ≡ true → test q.watcher ≡ true) ps
-    → filter (λ w. not (test w)) (map (λ (q : Place). q.watcher) (filter (λ q. not (slot == q.slot)) ps)) ≡ filter (λ w. not (test w)) (map (λ (q : Place). q.watcher) ps)
+gone_anyway : (test : Observer → Bool) (slot : ℕ) (ps : List Place) → AllByRecursion (λ q. (slot == q.slot) ≡ true → test q.observer ≡ true) ps
+    → filter (λ w. not (test w)) (map (λ (q : Place). q.observer) (filter (λ q. not (slot == q.slot)) ps)) ≡ filter (λ w. not (test w)) (map (λ (q : Place). q.observer) ps)
 gone_anyway test slot [] h = refl
-gone_anyway test slot (q ∷ qs) h = at (slot == q.slot) (test q.watcher) refl refl h.0 (gone_anyway test slot qs h.1)
+gone_anyway test slot (q ∷ qs) h = at (slot == q.slot) (test q.observer) refl refl h.0 (gone_anyway test slot qs h.1)
   where
-    at : (b c : Bool) → (slot == q.slot) ≡ b → test q.watcher ≡ c → ((slot == q.slot) ≡ true → test q.watcher ≡ true)
-        → filter (λ w. not (test w)) (map (λ (r : Place). r.watcher) (filter (λ r. not (slot == r.slot)) qs)) ≡ filter (λ w. not (test w)) (map (λ (r : Place). r.watcher) qs)
-        → filter (λ w. not (test w)) (map (λ (r : Place). r.watcher) (cond (not b) (q ∷ filter (λ r. not (slot == r.slot)) qs) (filter (λ r. not (slot == r.slot)) qs)))
-        ≡ cond (not c) (q.watcher ∷ filter (λ w. not (test w)) (map (λ (r : Place). r.watcher) qs)) (filter (λ w. not (test w)) (map (λ (r : Place). r.watcher) qs))
+    at : (b c : Bool) → (slot == q.slot) ≡ b → test q.observer ≡ c → ((slot == q.slot) ≡ true → test q.observer ≡ true)
+        → filter (λ w. not (test w)) (map (λ (r : Place). r.observer) (filter (λ r. not (slot == r.slot)) qs)) ≡ filter (λ w. not (test w)) (map (λ (r : Place). r.observer) qs)
+        → filter (λ w. not (test w)) (map (λ (r : Place). r.observer) (cond (not b) (q ∷ filter (λ r. not (slot == r.slot)) qs) (filter (λ r. not (slot == r.slot)) qs)))
+        ≡ cond (not c) (q.observer ∷ filter (λ w. not (test w)) (map (λ (r : Place). r.observer) qs)) (filter (λ w. not (test w)) (map (λ (r : Place). r.observer) qs))
     at true true g e h rec = rec
-    at true false g e h rec = let passes : test q.watcher ≡ true = h g in absurd cc
+    at true false g e h rec = let passes : test q.observer ≡ true = h g in absurd cc
     at false c g e h rec =
-        ap (λ t. cond (not t) (q.watcher ∷ filter (λ w. not (test w)) (map (λ (r : Place). r.watcher) (filter (λ r. not (slot == r.slot)) qs)))
-        (filter (λ w. not (test w)) (map (λ (r : Place). r.watcher) (filter (λ r. not (slot == r.slot)) qs)))) e
-        ∙ ap (λ l. cond (not c) (q.watcher ∷ l) l) rec
+        ap (λ t. cond (not t) (q.observer ∷ filter (λ w. not (test w)) (map (λ (r : Place). r.observer) (filter (λ r. not (slot == r.slot)) qs)))
+        (filter (λ w. not (test w)) (map (λ (r : Place). r.observer) (filter (λ r. not (slot == r.slot)) qs)))) e
+        ∙ ap (λ l. cond (not c) (q.observer ∷ l) l) rec
 
-each_with : (slot : ℕ) (test : Watcher → Bool) (ps : List Place) (p : Place) → filter (λ q. slot == q.slot) ps ≡ p ∷ [] → test p.watcher ≡ true
-    → AllByRecursion (λ q. (slot == q.slot) ≡ true → test q.watcher ≡ true) ps
+each_with : (slot : ℕ) (test : Observer → Bool) (ps : List Place) (p : Place) → filter (λ q. slot == q.slot) ps ≡ p ∷ [] → test p.observer ≡ true
+    → AllByRecursion (λ q. (slot == q.slot) ≡ true → test q.observer ≡ true) ps
 each_with slot test ps p at passes =
-    weaker ps (one_both (λ q. slot == q.slot) (λ q. (slot == q.slot) && test q.watcher) ps p at
-    (only_one (λ q. slot == q.slot) (λ q. (slot == q.slot) && test q.watcher) ps p at both_pass (few ps (omega (arith, ap length at)))))
+    weaker ps (one_both (λ q. slot == q.slot) (λ q. (slot == q.slot) && test q.observer) ps p at
+    (only_one (λ q. slot == q.slot) (λ q. (slot == q.slot) && test q.observer) ps p at both_pass (few ps (omega (arith, ap length at)))))
   where
-    both_pass : ((slot == p.slot) && test p.watcher) ≡ true
-    both_pass = ap (λ b. b && test p.watcher) (passes_first (λ (q : Place). slot == q.slot) ps p [] at) ∙ passes
+    both_pass : ((slot == p.slot) && test p.observer) ≡ true
+    both_pass = ap (λ b. b && test p.observer) (passes_first (λ (q : Place). slot == q.slot) ps p [] at) ∙ passes
 
-    few : (qs : List Place) → length (filter (λ q. slot == q.slot) qs) ≤ 1 → length (filter (λ q. (slot == q.slot) && test q.watcher) qs) ≤ 1
-    few qs le = omega (arith, count_weaker (λ q. (slot == q.slot) && test q.watcher) (λ q. slot == q.slot) (λ q e. (both (slot == q.slot) (test q.watcher) e).0) qs)
+    few : (qs : List Place) → length (filter (λ q. slot == q.slot) qs) ≤ 1 → length (filter (λ q. (slot == q.slot) && test q.observer) qs) ≤ 1
+    few qs le = omega (arith, count_weaker (λ q. (slot == q.slot) && test q.observer) (λ q. slot == q.slot) (λ q e. (both (slot == q.slot) (test q.observer) e).0) qs)
 
-    weaker : (qs : List Place) → AllByRecursion (λ q. (slot == q.slot) ≡ ((slot == q.slot) && test q.watcher)) qs
-        → AllByRecursion (λ q. (slot == q.slot) ≡ true → test q.watcher ≡ true) qs
+    weaker : (qs : List Place) → AllByRecursion (λ q. (slot == q.slot) ≡ ((slot == q.slot) && test q.observer)) qs
+        → AllByRecursion (λ q. (slot == q.slot) ≡ true → test q.observer ≡ true) qs
     weaker [] h = tt
-    weaker (q ∷ qs) h = ((λ e. (both (slot == q.slot) (test q.watcher) (sym h.0 ∙ e)).1), weaker qs h.1)
+    weaker (q ∷ qs) h = ((λ e. (both (slot == q.slot) (test q.observer) (sym h.0 ∙ e)).1), weaker qs h.1)
 
-pub removed_of_many : (test : Watcher → Bool) (t : Places) (slot : ℕ) (p : Place) → IsAt slot p t → test p.watcher ≡ true
-    → filter (λ w. not (test w)) (watchers_in (without_slot slot t)) ≡ filter (λ w. not (test w)) (watchers_in t)
+pub removed_of_many : (test : Observer → Bool) (t : Places) (slot : ℕ) (p : Place) → IsAt slot p t → test p.observer ≡ true
+    → filter (λ w. not (test w)) (observers_in (without_slot slot t)) ≡ filter (λ w. not (test w)) (observers_in t)
 removed_of_many test t slot p at passes = gone_anyway test slot t.list (each_with slot test t.list p at passes)
 
 -- and fewer are left
@@ -257,7 +257,7 @@ fewer_left t slot p at =
     (ap not (passes_first (λ (q : Place). slot == q.slot) t.list p [] at))
 
 -- an element that passes no test is kept
-pub all_stay : (test : Watcher → Bool) (ws : List Watcher) → list_any test ws ≡ false → filter (λ w. not (test w)) ws ≡ ws
+pub all_stay : (test : Observer → Bool) (ws : List Observer) → list_any test ws ≡ false → filter (λ w. not (test w)) ws ≡ ws
 all_stay test [] e = refl
 all_stay test (w ∷ ws) e = at (test w) e (all_stay test ws)
   where
@@ -286,11 +286,11 @@ any_member p slot (r ∷ rs) q at passes = go (slot == r.slot) at (any_member p 
         first (p r) (list_any p rs) (ap p it ∙ passes)
     go false at rec = later (p r) (list_any p rs) (rec at passes)
 
-any_watcher : (test : Watcher → Bool) (ps : List Place) → list_any test (map (λ (q : Place). q.watcher) ps) ≡ list_any (λ (q : Place). test q.watcher) ps
-any_watcher test [] = refl
-any_watcher test (q ∷ qs) = ap (λ b. test q.watcher || b) (any_watcher test qs)
+any_observer : (test : Observer → Bool) (ps : List Place) → list_any test (map (λ (q : Place). q.observer) ps) ≡ list_any (λ (q : Place). test q.observer) ps
+any_observer test [] = refl
+any_observer test (q ∷ qs) = ap (λ b. test q.observer || b) (any_observer test qs)
 
-pub was_found : (test : Watcher → Bool) (t : Places) (r : Option ℕ) → Finds test t r → is_some r ≡ list_any test (watchers_in t)
+pub was_found : (test : Observer → Bool) (t : Places) (r : Option ℕ) → Finds test t r → is_some r ≡ list_any test (observers_in t)
 was_found test t None none = sym none
 was_found test t (Some slot) found =
-    sym (any_watcher test t.list ∙ any_member (λ (q : Place). test q.watcher) slot t.list found.0 found.1 found.2)
+    sym (any_observer test t.list ∙ any_member (λ (q : Place). test q.observer) slot t.list found.0 found.1 found.2)

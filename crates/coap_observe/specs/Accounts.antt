@@ -6,7 +6,7 @@ use Rattle.std.specs.Str.{bytes_eq}
 use Rattle.coap_msg.specs.declared.constants.TheConstants.{LONGEST_TOKEN}
 use Rattle.coap_msg.specs.declared.endpoint.Endpoint.{Endpoint}
 use Rattle.coap_msg.specs.Endpoints.{is_same_endpoint}
-use Rattle.coap_observe.specs.declared.watcher.Watcher.{Watcher}
+use Rattle.coap_observe.specs.declared.observer.Observer.{Observer}
 use Rattle.coap_observe.specs.declared.notice.Registered.{Registered}
 use Rattle.coap_observe.specs.declared.notice.Registered.TheVariants.{New, Replaced, Full}
 use Rattle.coap_observe.specs.declared.notice.Notice.{Notice}
@@ -20,7 +20,7 @@ pub record Registration : Type 0 where
   pub target : ℕ
 
 -- a notification that was sent, and the place of the value that it says among all values
-pub record SentNotice : Type 0 where
+pub record SentNotification : Type 0 where
   pub notice : Notice
   pub place : ℕ
 
@@ -28,7 +28,7 @@ pub record SentNotice : Type 0 where
 pub record Account : Type 0 where
   pub registered : List Registration
   pub emitted : List ℕ
-  pub sent : List SentNotice
+  pub sent : List SentNotification
 
 -- nothing was done
 abbrev pub no_account : Account
@@ -56,9 +56,9 @@ abbrev pub with_value : ℕ → Account → Account
 with_value target a = record a { emitted = a.emitted ++ target ∷ [] }
 
 -- a notification says the last value of its target
-abbrev pub with_notice : Option Notice → Account → Account
-with_notice None a = a
-with_notice (Some n) a = record a { sent = a.sent ++ record { notice = n; place = last_place n.target a.emitted } ∷ [] }
+abbrev pub with_notification : Option Notice → Account → Account
+with_notification None a = a
+with_notification (Some n) a = record a { sent = a.sent ++ record { notice = n; place = last_place n.target a.emitted } ∷ [] }
 
 -- The account of the calls on a list that had no observers, and the list now: tokens and message IDs are those of
 -- messages (RFC 7252, section 3).
@@ -72,7 +72,7 @@ pub data Did (capacity : ℕ) : Account → Watching → Type 0 where
   acknowledged : (a : Account) (t u : Watching) (from : Endpoint) (id : ℕ) → Did capacity a t → u ≡ with_acknowledgement from id t → Did capacity a u
   rejected : (a : Account) (t u : Watching) (from : Endpoint) (id : ℕ) → Did capacity a t → u ≡ with_reset from id t → Did capacity a u
   sent : (a : Account) (t u : Watching) (now id : ℕ) (n : Option Notice) → Did capacity a t → id < 2 ^ 16 → u.capacity ≡ t.capacity
-      → Notifies now id t.list n u.list → Did capacity (with_notice n a) u
+      → Notifies now id t.list n u.list → Did capacity (with_notification n a) u
 
 -- ---- consequences
 
@@ -90,13 +90,13 @@ registrations_of from token [] = 0
 registrations_of from token (r ∷ rs) = registrations_of from token rs + one_if (is_same_endpoint from r.from && bytes_eq token r.token)
 
 -- the number of notifications that were sent as new messages, each with the message ID that was handed in
-abbrev pub fresh_count : List SentNotice → ℕ
+abbrev pub fresh_count : List SentNotification → ℕ
 fresh_count [] = 0
 fresh_count (s ∷ ss) = fresh_count ss + one_if s.notice.fresh
 
 -- Of a pair that registered once a notification before this one was for the same target. It had the same number and said the
 -- same value, or it had a lower number and said no later value.
-pub record GoesBefore (place : ℕ) (n : Notice) (s : SentNotice) : Type 0 where
+pub record GoesBefore (place : ℕ) (n : Notice) (s : SentNotification) : Type 0 where
   pub target : s.notice.target ≡ n.target
   pub order : ((s.notice.sequence ≡ n.sequence) × (s.place ≡ place)) ⊎ ((s.notice.sequence < n.sequence) × (s.place ≤ place))
 
@@ -114,14 +114,14 @@ pub record IsInOrder (a : Account) (n : Notice) : Type 0 where
   pub after : All (λ s. is_for n.to (token_of n) s.notice ≡ true → GoesBefore (last_place n.target a.emitted) n s) a.sent
 
 -- A notification goes to an observer that registered for its target.
-abbrev pub NoticesGoToTheRegistered : Type 0
-NoticesGoToTheRegistered =
-    (capacity : ℕ) (a : Account) (t : Watching) (now id : ℕ) (n : Notice) (us : List Watcher) → Did capacity a t → id < 2 ^ 16
+abbrev pub NotificationsGoToTheRegistered : Type 0
+NotificationsGoToTheRegistered =
+    (capacity : ℕ) (a : Account) (t : Watching) (now id : ℕ) (n : Notice) (us : List Observer) → Did capacity a t → id < 2 ^ 16
     → Notifies now id t.list (Some n) us → IsToRegistered a n
 
 -- To a pair that registered once notifications go in order, and say values in order, if fewer new messages were sent than there
 -- are numbers.
-abbrev pub NoticesAreInOrder : Type 0
-NoticesAreInOrder =
-    (capacity : ℕ) (a : Account) (t : Watching) (now id : ℕ) (n : Notice) (us : List Watcher) → Did capacity a t
+abbrev pub NotificationsAreInOrder : Type 0
+NotificationsAreInOrder =
+    (capacity : ℕ) (a : Account) (t : Watching) (now id : ℕ) (n : Notice) (us : List Observer) → Did capacity a t
     → Notifies now id t.list (Some n) us → registrations_of n.to (token_of n) a.registered ≤ 1 → fresh_count a.sent + 1 < 2 ^ 24 → IsInOrder a n

@@ -4,13 +4,13 @@ use Rattle.std.specs.List.{list_any}
 use Rattle.std.specs.Str.{bytes_eq}
 use Rattle.coap_msg.specs.declared.endpoint.Endpoint.{Endpoint}
 use Rattle.coap_msg.specs.Endpoints.{is_same_endpoint}
-use Rattle.coap_observe.specs.declared.watcher.Watcher.{Watcher}
+use Rattle.coap_observe.specs.declared.observer.Observer.{Observer}
 use Rattle.coap_observe.specs.declared.notice.Registered.{Registered}
 use Rattle.coap_observe.specs.declared.notice.Registered.TheVariants.{New, Replaced, Full}
 use Rattle.coap_observe.specs.declared.notice.Notice.{Notice}
 use Rattle.coap_msg.specs.declared.transmission.TheConstants.{MOST_RETRANSMISSIONS}
 use Rattle.coap_observe.specs.Sending.{Sent}
-use Rattle.coap_observe.specs.Watching.{Watching, next_sequence, sequence_of, none_watch, is_from, is_pair, is_busy, is_sent_as, is_due, Registers, without_pair, with_emission, with_acknowledgement, with_reset, hopeless, GivesUp, IsNotice, Notifies}
+use Rattle.coap_observe.specs.Watching.{Watching, next_sequence, sequence_of, none_watch, is_from, is_pair, is_busy, is_sent_as, is_due, Registers, without_pair, with_emission, with_acknowledgement, with_reset, hopeless, GivesUp, IsNotification, Notifies}
 
 -- The effect of one call on observers, where a registration may be of each endpoint and token of which `May` holds.
 pub data Goes (May : Endpoint → List ℕ → Type 0) (t u : Watching) : Type 0 where
@@ -32,7 +32,7 @@ pub data Comes (capacity : ℕ) : Watching → Type 0 where
   goes_on : (t u : Watching) → Comes capacity t → Goes Any t u → Comes capacity u
 
 -- the number of observers that pass a test
-abbrev pub count : (Watcher → Bool) → List Watcher → ℕ
+abbrev pub count : (Observer → Bool) → List Observer → ℕ
 count test ws = length (filter test ws)
 
 -- At most one notification to an endpoint is unacknowledged at a time (section 4.5.1).
@@ -46,7 +46,7 @@ PairsDiffer = (capacity : ℕ) (t : Watching) → Comes capacity t → (from : E
 -- An endpoint that is given up has no observer left (section 4.5).
 abbrev pub GivenUpLeavesNone : Type 0
 GivenUpLeavesNone =
-    (now : ℕ) (from : Endpoint) (ws us : List Watcher) → hopeless now ws ≡ Some from → GivesUp now ws us → list_any (is_from from) us ≡ false
+    (now : ℕ) (from : Endpoint) (ws us : List Observer) → hopeless now ws ≡ Some from → GivesUp now ws us → list_any (is_from from) us ≡ false
 
 -- nobody is registered with this endpoint and token
 abbrev pub IsAbsent : Endpoint → List ℕ → Watching → Type 0
@@ -55,7 +55,7 @@ IsAbsent from token t = list_any (is_pair from token) t.list ≡ false
 -- A Reset takes the observer away to which the notification went (section 3.6).
 abbrev pub ResetForgets : Type 0
 ResetForgets =
-    (capacity : ℕ) (t : Watching) (from : Endpoint) (id : ℕ) (w : Watcher) → Comes capacity t → find (is_sent_as from id) t.list ≡ Some w
+    (capacity : ℕ) (t : Watching) (from : Endpoint) (id : ℕ) (w : Observer) → Comes capacity t → find (is_sent_as from id) t.list ≡ Some w
     → IsAbsent w.from w.token (with_reset from id t)
 
 -- And it stays away until it is registered again.
@@ -71,13 +71,13 @@ is_for from token n = is_same_endpoint from n.to && bytes_eq token (take n.token
 -- Nothing is sent to one that isn't registered.
 abbrev pub NothingForAbsent : Type 0
 NothingForAbsent =
-    (from : Endpoint) (token : List ℕ) (t : Watching) (now id : ℕ) (n : Notice) (us : List Watcher) → IsAbsent from token t
+    (from : Endpoint) (token : List ℕ) (t : Watching) (now id : ℕ) (n : Notice) (us : List Observer) → IsAbsent from token t
     → Notifies now id t.list (Some n) us → is_for from token n ≡ false
 
 -- ---- sequence numbers
 
 -- the last sequence number of the observer of an endpoint and a token, if there is one
-abbrev pub last_number : Endpoint → List ℕ → List Watcher → Option ℕ
+abbrev pub last_number : Endpoint → List ℕ → List Observer → Option ℕ
 last_number from token ws = option_map (λ w. w.sequence) (find (is_pair from token) ws)
 
 -- While an observer stays, a call leaves its number or takes it to the next one.
@@ -101,9 +101,9 @@ RegistrationsSayIt =
     → (last_number from token u.list ≡ Some n) × (option_map next_sequence (last_number from token t.list) ≡ (if is_new r then None else Some n))
 
 -- And a notification says it too: a new message the next number, and one that is sent again the same.
-abbrev pub NoticesSayIt : Type 0
-NoticesSayIt =
-    (capacity : ℕ) (t : Watching) (now id : ℕ) (n : Notice) (us : List Watcher) → Comes capacity t → Notifies now id t.list (Some n) us
+abbrev pub NotificationsSayIt : Type 0
+NotificationsSayIt =
+    (capacity : ℕ) (t : Watching) (now id : ℕ) (n : Notice) (us : List Observer) → Comes capacity t → Notifies now id t.list (Some n) us
     → (before : ℕ) × (last_number n.to (take n.token_length n.token) t.list ≡ Some before)
     × (last_number n.to (take n.token_length n.token) us ≡ Some n.sequence)
     × (n.sequence ≡ (if n.fresh then next_sequence before else before))
@@ -142,19 +142,19 @@ pub data StaysUnanswered (from : Endpoint) (token : List ℕ) (before : Watching
 -- it (section 4.5; RFC 7252, section 4.2).
 abbrev pub AtMostFiveSendings : Type 0
 AtMostFiveSendings =
-    (capacity n : ℕ) (t u : Watching) (from : Endpoint) (token : List ℕ) (w : Watcher) (s : Sent) → Comes capacity t → find (is_pair from token) t.list ≡ Some w
+    (capacity n : ℕ) (t u : Watching) (from : Endpoint) (token : List ℕ) (w : Observer) (s : Sent) → Comes capacity t → find (is_pair from token) t.list ≡ Some w
     → w.notification ≡ Some s → s.retransmissions ≡ 0 → StaysUnanswered from token t n u → n ≤ MOST_RETRANSMISSIONS
 
 -- Each of them is the same message, or a new one where the target has a newer value.
 abbrev pub SendsTheSame : Type 0
 SendsTheSame =
-    (capacity now id : ℕ) (t : Watching) (from : Endpoint) (token : List ℕ) (w : Watcher) (s : Sent) (n : Notice) (us : List Watcher) → Comes capacity t
+    (capacity now id : ℕ) (t : Watching) (from : Endpoint) (token : List ℕ) (w : Observer) (s : Sent) (n : Notice) (us : List Observer) → Comes capacity t
     → find (is_pair from token) t.list ≡ Some w → w.notification ≡ Some s → Notifies now id t.list (Some n) us → is_for from token n ≡ true
-    → ((w.is_marked ≡ false) × IsNotice w s.id w.sequence false n) ⊎ ((w.is_marked ≡ true) × IsNotice w id (next_sequence w.sequence) true n)
+    → ((w.is_marked ≡ false) × IsNotification w s.id w.sequence false n) ⊎ ((w.is_marked ≡ true) × IsNotification w id (next_sequence w.sequence) true n)
 
 -- And then all observers of the endpoint are gone: where nothing is sent any more at a moment, an endpoint whose
 -- notification was due has no observer.
 abbrev pub DueAreGone : Type 0
 DueAreGone =
-    (capacity now id : ℕ) (t : Watching) (from : Endpoint) (token : List ℕ) (w : Watcher) (us : List Watcher) → Comes capacity t
+    (capacity now id : ℕ) (t : Watching) (from : Endpoint) (token : List ℕ) (w : Observer) (us : List Observer) → Comes capacity t
     → find (is_pair from token) t.list ≡ Some w → is_due now w ≡ true → Notifies now id t.list None us → list_any (is_from from) us ≡ false

@@ -1,7 +1,7 @@
 //! Laws of observers, as contracts of functions that do nothing, since a law is proved only as a clause.
 
-ghost use Rattle.coap_observe.specs.Accounts.{NoticesGoToTheRegistered, NoticesAreInOrder};
-ghost use Rattle.coap_observe.specs.Laws.{OneUnacknowledged, PairsDiffer, GivenUpLeavesNone, ResetForgets, AbsentStays, NothingForAbsent, NumbersRise, RegistrationsSayIt, NoticesSayIt, AtMostFiveSendings, SendsTheSame, DueAreGone};
+ghost use Rattle.coap_observe.specs.Accounts.{NotificationsGoToTheRegistered, NotificationsAreInOrder};
+ghost use Rattle.coap_observe.specs.Laws.{OneUnacknowledged, PairsDiffer, GivenUpLeavesNone, ResetForgets, AbsentStays, NothingForAbsent, NumbersRise, RegistrationsSayIt, NotificationsSayIt, AtMostFiveSendings, SendsTheSame, DueAreGone};
 
 /// At most one notification to an endpoint is unacknowledged at a time (RFC 7641, section 4.5.1).
 pub fn one_is_unacknowledged()
@@ -31,7 +31,7 @@ pub fn reset_forgets()
 pub fn numbers_rise()
     ensures rise { NumbersRise }
     ensures registrations { RegistrationsSayIt }
-    ensures notices { NoticesSayIt }
+    ensures notices { NotificationsSayIt }
 {}
 
 /// While nothing answers a notification, and its observer isn't registered or cancelled anew, it is sent at most five
@@ -45,7 +45,7 @@ pub fn sent_five_times()
 
 /// A notification goes to an observer that registered for its target. To one that registered once notifications go in
 /// the order of their numbers, and say the values of their target in order (RFC 7641, sections 3.4 and 4.5).
-pub fn notices_are_in_order()
-    ensures registered { NoticesGoToTheRegistered }
-    ensures order { NoticesAreInOrder }
+pub fn notifications_are_in_order()
+    ensures registered { NotificationsGoToTheRegistered }
+    ensures order { NotificationsAreInOrder }
 {}

@@ -7,15 +7,15 @@
 //! use coap_msg::Endpoint;
 //! use coap_observe::{Registered, Watchers};
 //!
-//! let mut watchers = Watchers::new(alloc, 1024)?;
+//! let mut observers = Watchers::new(alloc, 1024)?;
 //! let from = Endpoint { host: 1, port: 5683 };
-//! assert_eq!(watchers.register(from, b"a", 3), Registered::New(0));
+//! assert_eq!(observers.register(from, b"a", 3), Registered::New(0));
 //! // Target 3 has a new value: its observers are to be notified.
-//! watchers.emit(3);
-//! let notice = watchers.next_send(now, 7).unwrap();
+//! observers.emit(3);
+//! let notice = observers.next_send(now, 7).unwrap();
 //! assert_eq!((notice.target, notice.id, notice.sequence), (3, 7, 1));
 //! // One notification to an endpoint is unacknowledged at a time.
-//! assert!(watchers.acked(from, 7));
+//! assert!(observers.acked(from, 7));
 //! ```
 //!
 //! The contract in a sentence: each call is its step of `specs/Watching.antt`, and `next_send` is `Notifies` there. The
@@ -26,7 +26,7 @@
 //! registered once go in order and say the values of their target in order.
 //!
 //! Inside, observers are in slots that are linked by their targets and by their endpoints (`slots.rt`), and `next_send`
-//! looks at them only from the moment on at which something may be to be sent (`watchers.rt`).
+//! looks at them only from the moment on at which something may be to be sent (`observers.rt`).
 #![tactic(auto)]
 
 mod buckets;
@@ -34,16 +34,16 @@ mod giving_up;
 mod laws;
 mod notice;
 mod notification;
+mod observer;
+mod observers;
 mod sequence;
 mod slots;
 mod walks;
-mod watcher;
-mod watchers;
 
 pub use laws::{
-    given_up_leaves_none, notices_are_in_order, numbers_rise, one_is_unacknowledged, pairs_differ,
-    reset_forgets, sent_five_times,
+    given_up_leaves_none, notifications_are_in_order, numbers_rise, one_is_unacknowledged,
+    pairs_differ, reset_forgets, sent_five_times,
 };
 pub use notice::{Notice, Registered};
+pub use observers::Watchers;
 pub use servient_base::NoMemory;
-pub use watchers::Watchers;

@@ -2,10 +2,10 @@
 
 use crate::buckets::target_bucket;
 use crate::notice::Notice;
+use crate::observer::{Observer, SoughtObserver};
 use crate::walks::{
-    FREE, ORDERS, USED, due_slot, free_slot, mark, next_due, pair_slot, wanted_slot,
+    FREE, ORDERS, USED, due_slot, mark, next_due, pair_slot, sendable_slot, wanted_slot,
 };
-use crate::watcher::{Wanted, Watcher};
 use coap_msg::{Endpoint, LONGEST_TOKEN, bucket_of};
 use servient_base::{NoMemory, Target};
 use slot_lists::SlotLists;
@@ -17,16 +17,16 @@ use std::marker::Model;
 /// that of its target's bucket and in that of its endpoint's; without one it is in the list of the free slots (`FREE`
 /// of `order`), and keeps its last observer. So a call about one target or one endpoint looks at one bucket.
 #[derive(Drop)]
-pub struct WatcherSlots {
+pub struct ObserverSlots {
     capacity: u32,
-    watchers: Vec<Watcher>,
+    observers: Vec<Observer>,
     order: SlotLists,
     // As many as there are slots, as well as those of the endpoints.
     targets: SlotLists,
     endpoints: SlotLists,
 }
 
-impl Model for WatcherSlots {
+impl Model for ObserverSlots {
     ghost use Rattle.coap_observe.specs.Places.{Places};
 
     ghost Value = { Places };
@@ -38,24 +38,24 @@ impl Model for WatcherSlots {
     ghost invariant = { IsKept };
 }
 
-impl WatcherSlots {
+impl ObserverSlots {
     ghost use Rattle.std.specs.Prelude.{◌≡◌, ◌≤◌, ◌<◌, ℕ, true, false, length, IfOk};
     ghost use Rattle.std.specs.List.{list_any};
-    ghost use Rattle.coap_observe.specs.Places.{Place, none_placed, watchers_in, IsAt, IsUsed, with_change, with_changes, without_slot, IsAdded, Finds, FindsFirst, is_wanted, sent_once_more, IsSentOnceMore};
-    ghost use Rattle.coap_observe.specs.Watching.{newcomer, replaced, acknowledged, marked, notified, where_so, is_of_target, is_pair, is_due, is_free, is_given_up, next_sequence, IsNotice, IsSendable};
+    ghost use Rattle.coap_observe.specs.Places.{Place, none_placed, observers_in, IsAt, IsUsed, with_change, with_changes, without_slot, IsAdded, Finds, FindsFirst, is_wanted, sent_once_more, IsSentOnceMore};
+    ghost use Rattle.coap_observe.specs.Watching.{newcomer, replaced, acknowledged, marked, notified, where_so, is_of_target, is_pair, is_due, is_sendable, is_given_up, next_sequence, IsNotification, IsSendable};
 
     /// Slots for at most `capacity` observers, all free. All memory is taken here.
-    pub fn new(alloc: Global, capacity: u32) -> Result<WatcherSlots, NoMemory>
+    pub fn new(alloc: Global, capacity: u32) -> Result<ObserverSlots, NoMemory>
         requires { 1 ≤ capacity }
         ensures { IfOk result (λ t. t ≡ none_placed capacity) }
     {
-        let watchers = no_watchers(alloc, capacity)?;
+        let observers = no_observers(alloc, capacity)?;
         let order = all_free(alloc, capacity)?;
         let targets = SlotLists::new(alloc, capacity, capacity)?;
         let endpoints = SlotLists::new(alloc, capacity, capacity)?;
-        Ok(WatcherSlots {
+        Ok(ObserverSlots {
             capacity,
-            watchers,
+            observers,
             order,
             targets,
             endpoints,
@@ -67,51 +67,51 @@ impl WatcherSlots {
         ensures { Finds (is_pair from token.now) self.now result }
     {
         let bucket = bucket_of(from, 0, self.capacity);
-        pair_slot(&self.endpoints, bucket, &self.watchers, from, token)
+        pair_slot(&self.endpoints, bucket, &self.observers, from, token)
     }
 
     /// The slot of an observer of this endpoint that is wanted.
-    pub fn wanted_slot(&self, from: Endpoint, wanted: Wanted) -> Option<u32>
+    pub fn wanted_slot(&self, from: Endpoint, wanted: SoughtObserver) -> Option<u32>
         ensures { Finds (is_wanted from wanted) self.now result }
     {
         let bucket = bucket_of(from, 0, self.capacity);
-        wanted_slot(&self.endpoints, bucket, &self.watchers, from, wanted)
+        wanted_slot(&self.endpoints, bucket, &self.observers, from, wanted)
     }
 
     /// Whether an observer of this endpoint has a value to be sent.
     pub fn has_marked(&self, from: Endpoint) -> bool
-        ensures { result ≡ list_any (is_wanted from Wanted.Marked) (watchers_in self.now) }
+        ensures { result ≡ list_any (is_wanted from SoughtObserver.Marked) (observers_in self.now) }
     {
-        self.wanted_slot(from, Wanted::Marked).is_some()
+        self.wanted_slot(from, SoughtObserver::Marked).is_some()
     }
 
     /// The slot of the first observer whose notification is due.
     pub fn due_slot(&self, now: u64) -> Option<u32>
         ensures { FindsFirst (is_due now) self.now result }
     {
-        due_slot(&self.order, &self.watchers, now)
+        due_slot(&self.order, &self.observers, now)
     }
 
     /// The slot of the first observer that has a value to be sent and whose endpoint acknowledged all.
-    pub fn free_slot(&self) -> Option<u32>
-        ensures { FindsFirst (is_free (watchers_in self.now)) self.now result }
+    pub fn sendable_slot(&self) -> Option<u32>
+        ensures { FindsFirst (is_sendable (observers_in self.now)) self.now result }
     {
-        free_slot(&self.order, &self.endpoints, &self.watchers, self.capacity)
+        sendable_slot(&self.order, &self.endpoints, &self.observers, self.capacity)
     }
 
     /// A moment before which no notification is due.
     pub fn next_due(&self) -> u64
-        ensures { (now : ℕ) → now < result → list_any (is_due now) (watchers_in self.now) ≡ false }
+        ensures { (now : ℕ) → now < result → list_any (is_due now) (observers_in self.now) ≡ false }
     {
-        next_due(&self.order, &self.watchers)
+        next_due(&self.order, &self.observers)
     }
 
     /// The observer in a slot.
-    pub fn watcher(&self, slot: u32) -> &Watcher
+    pub fn observer(&self, slot: u32) -> &Observer
         requires { IsUsed slot self.now }
-        ensures { (p : Place) → IsAt slot p self.now → result.now ≡ p.watcher }
+        ensures { (p : Place) → IsAt slot p self.now → result.now ≡ p.observer }
     {
-        &self.watchers[slot as usize]
+        &self.observers[slot as usize]
     }
 
     /// Puts an observer of this endpoint and token, for a target, behind the others, and says whether there was room.
@@ -121,7 +121,7 @@ impl WatcherSlots {
     {
         match self.order.first(FREE) {
             Some(slot) => {
-                self.watchers[slot as usize] = Watcher::new(from, token, target);
+                self.observers[slot as usize] = Observer::new(from, token, target);
                 self.order.remove(FREE, slot);
                 self.order.push_back(USED, slot);
                 self.targets
@@ -139,8 +139,8 @@ impl WatcherSlots {
         requires { IsUsed slot self.old }
         ensures { self.new ≡ without_slot slot self.old }
     {
-        let target = self.watchers[slot as usize].target;
-        let from = self.watchers[slot as usize].from;
+        let target = self.observers[slot as usize].target;
+        let from = self.observers[slot as usize].from;
         self.targets
             .remove(target_bucket(target, self.capacity), slot);
         self.endpoints
@@ -155,9 +155,9 @@ impl WatcherSlots {
         requires { IsUsed slot self.old }
         ensures { self.new ≡ with_change slot (replaced target) self.old }
     {
-        let left = target_bucket(self.watchers[slot as usize].target, self.capacity);
+        let left = target_bucket(self.observers[slot as usize].target, self.capacity);
         let taken = target_bucket(target, self.capacity);
-        self.watchers[slot as usize].replace(target);
+        self.observers[slot as usize].replace(target);
         move_slot(&mut self.targets, left, taken, slot);
     }
 
@@ -167,7 +167,7 @@ impl WatcherSlots {
     {
         let bucket = target_bucket(target, self.capacity);
         // A slice, since a vector that is lent loses its length in a loop.
-        mark(&self.targets, bucket, self.watchers.as_mut_slice(), target);
+        mark(&self.targets, bucket, self.observers.as_mut_slice(), target);
     }
 
     /// The notification to the observer in a slot is acknowledged.
@@ -175,31 +175,31 @@ impl WatcherSlots {
         requires { IsUsed slot self.old }
         ensures { self.new ≡ with_change slot acknowledged self.old }
     {
-        self.watchers[slot as usize].acknowledge();
+        self.observers[slot as usize].acknowledge();
     }
 
     /// The notification to the observer in a slot is sent again now, or a new message with this message ID in place of
     /// it.
     pub fn send_again(&mut self, slot: u32, now: u64, id: u16) -> Notice
         requires slot { IsUsed slot self.old }
-        requires served { (p : Place) → IsAt slot p self.old → is_given_up p.watcher ≡ false }
+        requires served { (p : Place) → IsAt slot p self.old → is_given_up p.observer ≡ false }
         ensures changed { self.new ≡ with_change slot (sent_once_more now id) self.old }
-        ensures notice { (p : Place) → IsAt slot p self.old → IsSentOnceMore id p.watcher result }
-        ensures waits { (p : Place) → IsAt slot p self.old → is_due now (sent_once_more now id p.watcher) ≡ false }
+        ensures notice { (p : Place) → IsAt slot p self.old → IsSentOnceMore id p.observer result }
+        ensures waits { (p : Place) → IsAt slot p self.old → is_due now (sent_once_more now id p.observer) ≡ false }
         ensures bounds { IsSendable result }
     {
-        self.watchers[slot as usize].send_again(now, id)
+        self.observers[slot as usize].send_again(now, id)
     }
 
     /// The last value is sent to the observer in a slot now, with this message ID.
     pub fn send_first(&mut self, slot: u32, now: u64, id: u16) -> Notice
         requires { IsUsed slot self.old }
         ensures changed { self.new ≡ with_change slot (notified now id) self.old }
-        ensures notice { (p : Place) → IsAt slot p self.old → IsNotice p.watcher id (next_sequence p.watcher.sequence) true result }
-        ensures waits { (p : Place) → IsAt slot p self.old → is_due now (notified now id p.watcher) ≡ false }
+        ensures notice { (p : Place) → IsAt slot p self.old → IsNotification p.observer id (next_sequence p.observer.sequence) true result }
+        ensures waits { (p : Place) → IsAt slot p self.old → is_due now (notified now id p.observer) ≡ false }
         ensures bounds { IsSendable result }
     {
-        self.watchers[slot as usize].send_first(now, id)
+        self.observers[slot as usize].send_first(now, id)
     }
 }
 
@@ -236,13 +236,13 @@ fn all_free(alloc: Global, capacity: u32) -> Result<SlotLists, NoMemory>
 }
 
 /// The contents of slots that were never used.
-fn no_watchers(alloc: Global, capacity: u32) -> Result<Vec<Watcher>, NoMemory>
-    ensures { IfOk result (λ watchers. length watchers.items ≡ capacity) }
+fn no_observers(alloc: Global, capacity: u32) -> Result<Vec<Observer>, NoMemory>
+    ensures { IfOk result (λ observers. length observers.items ≡ capacity) }
 {
     // Pushed one by one, since an observer can't be copied.
-    let mut watchers = Vec::with_capacity(alloc, capacity as usize)?;
+    let mut observers = Vec::with_capacity(alloc, capacity as usize)?;
     for _slot in 0..capacity {
-        watchers.push(Watcher::new(Endpoint { host: 0, port: 0 }, &[], 0))?;
+        observers.push(Observer::new(Endpoint { host: 0, port: 0 }, &[], 0))?;
     }
-    Ok(watchers)
+    Ok(observers)
 }

@@ -9,7 +9,7 @@ use Rattle.coap_msg.specs.declared.constants.TheConstants.{IF_MATCH, ETAG, IF_NO
 use Rattle.coap_msg.specs.Grammar.{CoapOption}
 use Rattle.thing_ops.specs.declared.conditions.Tags.{Tags}
 use Rattle.thing_ops.specs.Conditions.{no_tags, no_conditions}
-use Rattle.coap_opts.specs.declared.conditions.Noted.{Noted}
+use Rattle.coap_opts.specs.declared.conditions.NotedOptions.{NotedOptions}
 use Rattle.coap_opts.specs.Reading.{values_under, version_of, is_there, is_blank, tags_of, match_of, known_by, conditions_by}
 use Rattle.coap_opts.specs.Found.{asks_for_version, both_tags, noted_of, noted_then}
 use Rattle.coap_opts.proofs.FirstValues.{values_first}
@@ -40,7 +40,7 @@ noted_first counts o os = λ i. record {
   absent = (ap is_there (values_first IF_NONE_MATCH o os) ∙ there_more (values_under IF_NONE_MATCH (o ∷ [])) (values_under IF_NONE_MATCH os)) i;
 }
 
-noted_assoc : (a b c : Noted) → noted_then (noted_then a b) c ≡ noted_then a (noted_then b c)
+noted_assoc : (a b c : NotedOptions) → noted_then (noted_then a b) c ≡ noted_then a (noted_then b c)
 noted_assoc a b c = λ i. record {
   stands = or_assoc a.stands b.stands c.stands i;
   matched = both_assoc a.matched b.matched c.matched i;
@@ -49,7 +49,7 @@ noted_assoc a b c = λ i. record {
 }
 
 -- one option more
-pub option_kept : (counts : Bool) (before now after : Noted) (all left rest : List CoapOption) (o : CoapOption) →
+pub option_kept : (counts : Bool) (before now after : NotedOptions) (all left rest : List CoapOption) (o : CoapOption) →
     noted_then before (noted_of counts all) ≡ noted_then now (noted_of counts left) → left ≡ o ∷ rest →
     after ≡ noted_then now (noted_of counts (o ∷ [])) → noted_then before (noted_of counts all) ≡ noted_then after (noted_of counts rest)
 option_kept counts before now after all left rest o so_far is noted =
@@ -57,14 +57,14 @@ option_kept counts before now after all left rest o so_far is noted =
     ∙ ap (λ (os : List CoapOption). noted_then now (noted_of counts os)) is
     ∙ ap (noted_then now) (noted_first counts o rest)
     ∙ sym (noted_assoc now (noted_of counts (o ∷ [])) (noted_of counts rest))
-    ∙ ap (λ (n : Noted). noted_then n (noted_of counts rest)) (sym noted)
+    ∙ ap (λ (n : NotedOptions). noted_then n (noted_of counts rest)) (sym noted)
 
 known_none : (counts : Bool) → known_by counts [] ≡ no_tags
 known_none true = refl
 known_none false = refl
 
 -- the notes on all options, where there were none before
-pub nothing_before : (counts : Bool) (matched known : Tags) (after : Noted) (os : List CoapOption) → matched ≡ no_tags → known ≡ no_tags →
+pub nothing_before : (counts : Bool) (matched known : Tags) (after : NotedOptions) (os : List CoapOption) → matched ≡ no_tags → known ≡ no_tags →
     after ≡ noted_then (record { stands = false; matched = matched; known = known; absent = false }) (noted_of counts os) → after ≡ noted_of counts os
 nothing_before counts matched known after os none none_too is =
     is ∙ (λ i. noted_then (record { stands = false; matched = none i; known = none_too i; absent = false }) (noted_of counts os))

@@ -5,7 +5,7 @@ use Rattle.coap_msg.specs.declared.constants.TheConstants.{IF_MATCH, ETAG, IF_NO
 use Rattle.coap_msg.specs.Grammar.{CoapOption}
 use Rattle.thing_ops.specs.declared.conditions.Tags.{Tags}
 use Rattle.thing_ops.specs.declared.conditions.Conditions.{Conditions}
-use Rattle.coap_opts.specs.declared.conditions.Noted.{Noted}
+use Rattle.coap_opts.specs.declared.conditions.NotedOptions.{NotedOptions}
 use Rattle.coap_opts.specs.Reading.{values_under, is_there, tags_of, known_by}
 
 -- the value of the first option of this number
@@ -23,7 +23,7 @@ asks_for_version o = (o.0 == IF_MATCH) || ((o.0 == ETAG) || (o.0 == IF_NONE_MATC
 -- ---- notes on options, one after another
 
 -- the notes on these options, where those of ETag count or don't
-abbrev pub noted_of : Bool → List CoapOption → Noted
+abbrev pub noted_of : Bool → List CoapOption → NotedOptions
 noted_of counts os = record {
   stands = is_there (values_under IF_MATCH os);
   matched = tags_of (values_under IF_MATCH os);
@@ -36,7 +36,7 @@ abbrev pub both_tags : Tags → Tags → Tags
 both_tags one other = record { any = one.any || other.any; list = one.list ++ other.list }
 
 -- the notes on some options, and then on others
-abbrev pub noted_then : Noted → Noted → Noted
+abbrev pub noted_then : NotedOptions → NotedOptions → NotedOptions
 noted_then one other = record {
   stands = one.stands || other.stands;
   matched = both_tags one.matched other.matched;
@@ -45,5 +45,5 @@ noted_then one other = record {
 }
 
 -- the conditions of these notes
-abbrev pub asked_by : Noted → Conditions
+abbrev pub asked_by : NotedOptions → Conditions
 asked_by noted = record { if_match = if noted.stands then Some noted.matched else None; known = noted.known; absent = noted.absent }

@@ -1,4 +1,4 @@
 pub mod Table
 pub mod Reading
-pub mod PlainAsk
+pub mod AskSeen
 pub mod Found

@@ -15,7 +15,7 @@ use Rattle.thing_ops.specs.declared.request.Format.TheVariants as format
 use Rattle.thing_ops.specs.declared.conditions.Tags.{Tags}
 use Rattle.thing_ops.specs.declared.conditions.Conditions.{Conditions}
 use Rattle.thing_ops.specs.Conditions.{no_tags}
-use Rattle.thing_ops.specs.Requests.{PlainRequest}
+use Rattle.thing_ops.specs.Requests.{RequestSeen}
 use Rattle.coap_opts.specs.declared.fault.AskFault.{AskFault}
 use Rattle.coap_opts.specs.declared.fault.AskFault.TheVariants as fault
 use Rattle.coap_opts.specs.declared.known.Known.{Known}
@@ -158,15 +158,15 @@ accept_of (Some number) = record { json = number == JSON; td = number == TD_JSON
 
 -- a request, the value of Observe, the block of the request that this is and the block of the response that is wanted,
 -- apart from their places in memory
-pub record PlainAsk : Type 0 where
-  pub request : PlainRequest
+pub record AskSeen : Type 0 where
+  pub request : RequestSeen
   pub observe : Option ℕ
   pub block1 : Option Block
   pub block2 : Option Block
 
 -- The meaning of a message of class 0, if nothing is wrong with its options. Its path is the values of Uri-Path, and
 -- Uri-Query isn't read.
-abbrev pub asked : CoapMessage → PlainAsk
+abbrev pub asked : CoapMessage → AskSeen
 asked m = record {
   request = record {
     verb = verb_of m.code;
@@ -183,6 +183,6 @@ asked m = record {
 }
 
 -- the blocks that are asked are such as may be written (RFC 7959, section 2.2)
-pub record HasBlocks (a : PlainAsk) : Type 0 where
+pub record HasBlocks (a : AskSeen) : Type 0 where
   pub block1 : IfSome a.block1 IsBlock
   pub block2 : IfSome a.block2 IsBlock

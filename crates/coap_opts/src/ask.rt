@@ -3,11 +3,11 @@
 ghost use Rattle.std.specs.Prelude.{◌≡◌, ◌<◌, ◌⊎◌, ◌==◌, ◌&&◌, not, [], ◌∷◌, Some, IfOk, IfErr, OnOk, slice_get};
 ghost use Rattle.coap_msg.specs.MessageOf.{message_of};
 ghost use Rattle.coap_opts.specs.Reading.{faults_of, verb_of, format_of, accept_of, asked, HasBlocks, IsRefusal};
-ghost use Rattle.coap_opts.specs.PlainAsk.{plain_ask};
+ghost use Rattle.coap_opts.specs.AskSeen.{ask_seen};
 
 use crate::AskFault;
 use crate::conditions::read_conditions;
-use crate::found::{Found, note_all, refusal};
+use crate::found::{FoundOptions, note_all, refusal};
 use crate::known::{ACCEPT, CONTENT_FORMAT, OBSERVE};
 use crate::values::numeric;
 use coap_msg::{Block, DELETE, GET, JSON, Message, POST, PUT, TD_JSON, read_block};
@@ -33,8 +33,8 @@ pub fn request_of<'a>(alloc: Global, message: &Message<'a>) -> Result<CoapAsk<'a
     requires class { message.now.code < 32 }
 
     ensures ok { IfOk result (λ ask. (faults_of message.now.options ≡ []) ×
-        (plain_ask ask ≡ asked (message_of message.now))) }
-    ensures blocks { IfOk result (λ ask. HasBlocks (plain_ask ask)) }
+        (ask_seen ask ≡ asked (message_of message.now))) }
+    ensures blocks { IfOk result (λ ask. HasBlocks (ask_seen ask)) }
 
     // It is out of memory only where nothing is wrong with the options.
     ensures fault { IfErr result (λ e. IsRefusal message.now.options e) }
@@ -45,7 +45,7 @@ pub fn request_of<'a>(alloc: Global, message: &Message<'a>) -> Result<CoapAsk<'a
         Ok(path) => path,
         Err(_) => return Err(refusal(&message.options)),
     };
-    let mut found = Found {
+    let mut found = FoundOptions {
         path,
         observe: None,
         format: None,

@@ -15,7 +15,7 @@ const LONGEST_TAG: usize = 4;
 
 /// Notes on some options.
 #[derive(Drop)]
-pub struct Noted {
+pub struct NotedOptions {
     /// One of them is If-Match.
     pub stands: bool,
     /// The versions that the options If-Match say.
@@ -49,7 +49,7 @@ pub fn read_conditions(
 fn conditions_in(alloc: Global, options: &Options<'_>, counts: bool) -> Result<Conditions, NoMemory>
     ensures { IfOk result (λ c. c ≡ conditions_by counts options.now) }
 {
-    let mut noted = Noted {
+    let mut noted = NotedOptions {
         stands: false,
         matched: Tags::none(alloc),
         known: Tags::none(alloc),
@@ -60,7 +60,11 @@ fn conditions_in(alloc: Global, options: &Options<'_>, counts: bool) -> Result<C
 }
 
 /// Notes options. The notes are lent and not returned, since each early exit costs what a function owns.
-fn note_options(noted: &mut Noted, options: &Options<'_>, counts: bool) -> Result<(), NoMemory>
+fn note_options(
+    noted: &mut NotedOptions,
+    options: &Options<'_>,
+    counts: bool,
+) -> Result<(), NoMemory>
     ensures { OnOk result (noted.new ≡ noted_then noted.old (noted_of counts options.now)) }
 {
     for (number, value) in options.iter() {
@@ -70,7 +74,12 @@ fn note_options(noted: &mut Noted, options: &Options<'_>, counts: bool) -> Resul
 }
 
 /// Notes one option.
-fn note_option(noted: &mut Noted, number: u16, value: &[u8], counts: bool) -> Result<(), NoMemory>
+fn note_option(
+    noted: &mut NotedOptions,
+    number: u16,
+    value: &[u8],
+    counts: bool,
+) -> Result<(), NoMemory>
     ensures { OnOk result (noted.new ≡ noted_then noted.old (noted_of counts ((number, value.now) ∷ []))) }
 {
     if number == IF_MATCH {
@@ -114,10 +123,10 @@ fn version_of(value: &[u8]) -> Option<u32>
 }
 
 /// The conditions of these notes.
-fn asked_by(noted: Noted) -> Conditions
+fn asked_by(noted: NotedOptions) -> Conditions
     ensures { result ≡ asked_by_noted noted }
 {
-    let Noted {
+    let NotedOptions {
         stands,
         matched,
         known,

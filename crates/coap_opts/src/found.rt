@@ -15,7 +15,7 @@ use thing_ops::{NoMemory, Segments};
 
 /// The values that were found so far: the path, and the first value of each number.
 #[derive(Drop)]
-pub struct Found<'a> {
+pub struct FoundOptions<'a> {
     /// The values of Uri-Path.
     pub path: Segments,
     /// The first value of Observe.
@@ -32,7 +32,7 @@ pub struct Found<'a> {
     pub conditional: bool,
 }
 
-impl<'a> Found<'a> {
+impl<'a> FoundOptions<'a> {
     ghost use Rattle.std.specs.Prelude.{◌≡◌, ◌++◌, ◌||◌, [], ◌∷◌, OnOk};
     ghost use Rattle.std.specs.Option.{option_or};
     ghost use Rattle.coap_opts.specs.Reading.{values_under};
@@ -70,7 +70,7 @@ impl<'a> Found<'a> {
 
 /// Finds all values of some options that count, where nothing is found yet, or gives the fault of the first option that
 /// has one.
-pub fn note_all<'a>(found: &mut Found<'a>, options: &Options<'a>) -> Result<(), AskFault>
+pub fn note_all<'a>(found: &mut FoundOptions<'a>, options: &Options<'a>) -> Result<(), AskFault>
     requires path { found.old.path ≡ [] }
     requires observe { kept_first found.old.observe ≡ None }
     requires format { kept_first found.old.format ≡ None }

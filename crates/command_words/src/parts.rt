@@ -52,7 +52,7 @@ fn is_file_name(word: &str) -> bool
 }
 
 /// The number from `least` to `most` that a word writes.
-fn number_of(word: &str, least: u32, most: u32) -> Result<u32, WordsFault>
+fn number_in_word(word: &str, least: u32, most: u32) -> Result<u32, WordsFault>
     ensures { Reads (number_between least most word.now) result }
 {
     match parse_decimal(word, u64::from(most)) {
@@ -66,7 +66,7 @@ pub fn number(word: Option<&str>, least: u32, most: u32) -> Result<u32, WordsFau
     ensures { Reads (option_and_then (number_between least most) (text_in word.entry)) result }
 {
     match word {
-        Some(text) => number_of(text, least, most),
+        Some(text) => number_in_word(text, least, most),
         None => Err(WordsFault::Usage),
     }
 }
@@ -76,7 +76,7 @@ pub fn number_or(default: u32, word: Option<&str>, least: u32, most: u32) -> Res
     ensures { Reads (option_map_or (number_between least most) (text_in word.entry) (Some default)) result }
 {
     match word {
-        Some(text) => number_of(text, least, most),
+        Some(text) => number_in_word(text, least, most),
         None => Ok(default),
     }
 }

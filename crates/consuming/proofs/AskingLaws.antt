@@ -19,12 +19,12 @@ use Rattle.servient_outside.specs.declared.out.Put.TheVariants as put
 use Rattle.servient_outside.specs.Network.{Happening, did, dials_as, finds_as, NetSeen, NetShows}
 use Rattle.servient_outside.specs.Out.{OutSeen}
 use Rattle.servient_outside.proofs.NetLaws.{net_shows_then}
-use Rattle.consuming.specs.declared.operation.Operation.{Operation}
+use Rattle.consuming.specs.declared.operation.ThingOperation.{ThingOperation}
 use Rattle.consuming.specs.declared.purpose.Purpose.{Purpose}
 use Rattle.consuming.specs.declared.purpose.Purpose.TheVariants as purpose
 use Rattle.consuming.specs.declared.consumed.Consumed.{Consumed}
 use Rattle.consuming.specs.declared.consumed.Consumed.TheVariants as ended
-use Rattle.consuming.specs.declared.consumed.Outcome.TheVariants as outcome
+use Rattle.consuming.specs.declared.consumed.ConsumedOutcome.TheVariants as outcome
 use Rattle.consuming.specs.declared.waiting.Waiting.{Waiting}
 use Rattle.consuming.specs.declared.waiting.Waiting.TheVariants.{Http, Coap}
 use Rattle.consuming.specs.declared.coap_waiting.CoapWaiting.{CoapWaiting}
@@ -146,13 +146,13 @@ asked_with o c body bytes r a b p same asks = record { deeds = asks.deeds; holds
 pub no_body : (o : Purpose) (c : Chosen) (body : Option (List ℕ)) (a : Sight) → Shows (λ deeds. AsksOrNot o c body deeds ended.NoMemory) a a put.Done
 no_body o c body a = record { deeds = []; holds = whole.body_memory refl refl; shows = shows_none a }
 
-pub consumed_by_asking : (o : Operation) (c : Chosen) (r : Consumed) (a b : Sight) (p : Put) → TakesInput o → Shows (λ deeds. AsksOrNot (purpose.Operation o) c (option_map text_of (input_of o)) deeds r) a b p → Shows (λ deeds. Consumes o c deeds r) a b p
+pub consumed_by_asking : (o : ThingOperation) (c : Chosen) (r : Consumed) (a b : Sight) (p : Put) → TakesInput o → Shows (λ deeds. AsksOrNot (purpose.Operation o) c (option_map text_of (input_of o)) deeds r) a b p → Shows (λ deeds. Consumes o c deeds r) a b p
 consumed_by_asking o c r a b p takes asks = record { deeds = asks.deeds; holds = whole.is_done takes asks.holds; shows = asks.shows }
 
-pub consumed_nothing : (o : Operation) (c : Chosen) (a : Sight) → ¬ (TakesInput o) → Shows (λ deeds. Consumes o c deeds (ended.Other outcome.Input)) a a put.Done
+pub consumed_nothing : (o : ThingOperation) (c : Chosen) (a : Sight) → ¬ (TakesInput o) → Shows (λ deeds. Consumes o c deeds (ended.Other outcome.Input)) a a put.Done
 consumed_nothing o c a refused = record { deeds = []; holds = whole.is_refused refused refl refl; shows = shows_none a }
 
-pub consumed_no_memory : (o : Operation) (c : Chosen) (a : Sight) → Shows (λ deeds. Consumes o c deeds ended.NoMemory) a a put.Done
+pub consumed_no_memory : (o : ThingOperation) (c : Chosen) (a : Sight) → Shows (λ deeds. Consumes o c deeds ended.NoMemory) a a put.Done
 consumed_no_memory o c a = record { deeds = []; holds = whole.input_memory refl refl; shows = shows_none a }
 
 -- ## Discovery

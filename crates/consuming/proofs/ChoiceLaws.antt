@@ -20,7 +20,7 @@ use Rattle.wot_json.specs.Meaning.{json_of}
 use Rattle.wot_consumer.specs.Choice.{IsFirst, IsChosen, base_of, wanted}
 use Rattle.coap_client.specs.Asking.{Asking, MayAsk}
 use Rattle.consuming.specs.declared.blocks.Blocks.{Blocks}
-use Rattle.consuming.specs.declared.operation.Operation.{Operation}
+use Rattle.consuming.specs.declared.operation.ThingOperation.{ThingOperation}
 use Rattle.consuming.specs.Asking.{method_code, asking_for, cancelling, AreBlocks, IsAskable, IsChoice}
 
 -- the method is one that has a code
@@ -70,10 +70,10 @@ first_can_be_sent o only base (f ∷ fs) c (inr later) = first_can_be_sent o onl
 chosen_can_be_sent : (t : Json) (o : Op) (only : Option Scheme) (name : List ℕ) (c : Chosen) → IsChosen t (wanted o only) name c → CanBeSent c
 chosen_can_be_sent t o only name c chosen = first_can_be_sent o only (base_of t) chosen.0 c chosen.2
 
-choice_can_be_sent : (o : Operation) (c : Chosen) → IsChoice o c → CanBeSent c
+choice_can_be_sent : (o : ThingOperation) (c : Chosen) → IsChoice o c → CanBeSent c
 choice_can_be_sent o c choice = chosen_can_be_sent (json_of o.tree.now) o.op choice.0 o.name.now c choice.1
 
-pub choice_is_askable : (o : Operation) (c : Chosen) → IsChoice o c → c.scheme ≡ scheme.Coap → IsAskable c
+pub choice_is_askable : (o : ThingOperation) (c : Chosen) → IsChoice o c → c.scheme ≡ scheme.Coap → IsAskable c
 choice_is_askable o c choice is = record {
   code = (choice_can_be_sent o c choice).code.0;
   class = (choice_can_be_sent o c choice).code.1;

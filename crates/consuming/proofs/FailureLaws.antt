@@ -14,7 +14,7 @@ use Rattle.consuming.specs.declared.blocks.Blocks.{Blocks}
 use Rattle.consuming.specs.declared.coap_waiting.CoapWaiting.{CoapWaiting}
 use Rattle.consuming.specs.declared.consumed.Consumed.{Consumed}
 use Rattle.consuming.specs.declared.consumed.Consumed.TheVariants as consumed
-use Rattle.consuming.specs.declared.operation.Operation.{Operation}
+use Rattle.consuming.specs.declared.operation.ThingOperation.{ThingOperation}
 use Rattle.consuming.specs.declared.purpose.Purpose.{Purpose}
 use Rattle.consuming.specs.declared.waiting.Waiting.{Waiting}
 use Rattle.consuming.specs.Deeds.{Deed, happens, prints, happen, happened_in}
@@ -126,7 +126,7 @@ asking_breaks p c body scheme.Http deeds (request_memory is memory) = absurd cc
 asking_breaks p c body scheme.Http deeds (is_sent k rest awaits is) = as_one deeds _ is (awaiting_breaks p c _ _ rest awaits)
 asking_breaks p c body scheme.Coap deeds asks = coap_breaks p c body deeds asks
 
-pub failing_breaks : (o : Operation) (c : Chosen) (deeds : List Deed) → Consumes o c deeds consumed.Failed → Breaks deeds
+pub failing_breaks : (o : ThingOperation) (c : Chosen) (deeds : List Deed) → Consumes o c deeds consumed.Failed → Breaks deeds
 failing_breaks o c deeds (is_refused refused nothing input) = absurd cc
 failing_breaks o c deeds (input_memory nothing memory) = absurd cc
 failing_breaks o c deeds (is_done takes (body_memory nothing memory)) = absurd cc

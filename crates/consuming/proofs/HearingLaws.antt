@@ -28,8 +28,8 @@ use Rattle.wot_consumer.specs.declared.chosen.Chosen.{Chosen}
 use Rattle.consuming.specs.declared.purpose.Purpose.{Purpose}
 use Rattle.consuming.specs.declared.consumed.Consumed.{Consumed}
 use Rattle.consuming.specs.declared.consumed.Consumed.TheVariants as ended
-use Rattle.consuming.specs.declared.consumed.Outcome.{Outcome}
-use Rattle.consuming.specs.declared.consumed.Outcome.TheVariants as outcome
+use Rattle.consuming.specs.declared.consumed.ConsumedOutcome.{ConsumedOutcome}
+use Rattle.consuming.specs.declared.consumed.ConsumedOutcome.TheVariants as outcome
 use Rattle.consuming.specs.declared.answers.Verdict.{Verdict}
 use Rattle.consuming.specs.declared.answers.Verdict.TheVariants as verdict
 use Rattle.consuming.specs.declared.blocks.Blocks.{Blocks}
@@ -66,7 +66,7 @@ closes_unprinted n o q payload bytes p same shows empty failed = record {
   shows = shows_text n o q put.Failed payload (subst (λ (x : List ℕ). OutShows o q put.Failed (text_in (printed x))) same (subst (λ (x : Put). OutShows o q x (text_in (printed bytes))) failed shows));
 }
 
-pub closes_outcome : (a : Sight) (x : Outcome) → Shows (λ deeds. Closes (verdict.Outcome x) deeds (ended.Other x)) a a put.Done
+pub closes_outcome : (a : Sight) (x : ConsumedOutcome) → Shows (λ deeds. Closes (verdict.Outcome x) deeds (ended.Other x)) a a put.Done
 closes_outcome a x = record { deeds = []; holds = (refl, refl); shows = shows_none a }
 
 pub closes_memory : (a : Sight) → Shows (λ deeds. Closes verdict.NoMemory deeds ended.NoMemory) a a put.Done

@@ -11,12 +11,12 @@ use Rattle.wot_terms.specs.Faults.{IsValid}
 use Rattle.wot_consumer.specs.Operations.{is_consumed}
 use Rattle.wot_consumer.specs.Judgement.{AcceptsOutput, HasAffordance}
 use Rattle.wot_consumer.specs.Discovery.{SaysOfThings}
-use Rattle.consuming.specs.declared.operation.Operation.{Operation}
+use Rattle.consuming.specs.declared.operation.ThingOperation.{ThingOperation}
 use Rattle.consuming.specs.declared.purpose.Purpose.{Purpose}
 use Rattle.consuming.specs.declared.purpose.Purpose.TheVariants as purpose
 use Rattle.consuming.specs.declared.consumed.Consumed.{Consumed}
 use Rattle.consuming.specs.declared.consumed.Consumed.TheVariants as ended
-use Rattle.consuming.specs.declared.consumed.Outcome.TheVariants as outcome
+use Rattle.consuming.specs.declared.consumed.ConsumedOutcome.TheVariants as outcome
 use Rattle.consuming.specs.declared.consumed.Status.{Status}
 use Rattle.consuming.specs.declared.consumed.Status.TheVariants as status
 use Rattle.consuming.specs.declared.judgement.Judged.{Judged}
@@ -28,7 +28,7 @@ use Rattle.consuming.specs.Deeds.{Deed, printed, printed_lines}
 -- ## Operations that may be asked
 
 -- a description is valid and has the affordance of an operation that a consumer does
-pub record CanBeAsked (o : Operation) : Type 0 where
+pub record CanBeAsked (o : ThingOperation) : Type 0 where
   pub valid : IsValid (json_of o.tree.now)
   pub consumed : is_consumed o.op ≡ true
   pub affordance : HasAffordance (json_of o.tree.now) o.op o.name.now
@@ -62,18 +62,18 @@ value_in [] = Some None
 value_in (byte ∷ bytes) = option_map (λ v. Some v) (tree_of (byte ∷ bytes))
 
 -- The description takes the value that comes back. A value that describes a thing that was made isn't judged by it.
-abbrev pub IsTaken : Operation → Status → Option Json → Type 0
+abbrev pub IsTaken : ThingOperation → Status → Option Json → Type 0
 IsTaken o s value = (is_created s ≡ true) ⊎ AcceptsOutput (json_of o.tree.now) o.op o.name.now value
 
 -- the judgement of a payload
-abbrev pub IsJudged : Operation → Status → List ℕ → Judged → Type 0
+abbrev pub IsJudged : ThingOperation → Status → List ℕ → Judged → Type 0
 IsJudged o s payload judged.Taken = (value : Option Json) × (value_in payload ≡ Some value) × IsTaken o s value
 IsJudged o s payload judged.NotTaken = (value : Option Json) × (value_in payload ≡ Some value) × ¬ (IsTaken o s value)
 IsJudged o s payload judged.Unread = value_in payload ≡ None
 IsJudged o s payload judged.NoMemory = ⊤
 
 -- the verdict on the value of an answer of success: whether it can be read, and is taken
-pub data ValueComesTo (o : Operation) (s : Status) (payload : List ℕ) (v : Verdict) : Type 0 where
+pub data ValueComesTo (o : ThingOperation) (s : Status) (payload : List ℕ) (v : Verdict) : Type 0 where
   unread : IsJudged o s payload judged.Unread → v ≡ verdict.Outcome outcome.Malformed → ValueComesTo o s payload v
   not_taken : IsJudged o s payload judged.NotTaken → v ≡ verdict.Outcome outcome.Output → ValueComesTo o s payload v
   taken : IsJudged o s payload judged.Taken → v ≡ verdict.Payload payload → ValueComesTo o s payload v

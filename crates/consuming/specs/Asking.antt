@@ -13,7 +13,7 @@ use Rattle.wot_consumer.specs.declared.chosen.Chosen.{Chosen}
 use Rattle.wot_consumer.specs.Choice.{IsChosen, wanted}
 use Rattle.wot_consumer.specs.Places.{AreSendable}
 use Rattle.coap_client.specs.Asking.{Asking}
-use Rattle.consuming.specs.declared.operation.Operation.{Operation}
+use Rattle.consuming.specs.declared.operation.ThingOperation.{ThingOperation}
 use Rattle.consuming.specs.declared.blocks.Blocks.{Blocks}
 
 -- ## The blocks of a request
@@ -84,7 +84,7 @@ abbrev pub cancelling : Chosen → Asking
 cancelling c = record { code = GET; path = c.path; observe = Some false; format = None; block1 = None; block2 = None; payload = [] }
 
 -- This was chosen for an operation, where a scheme was wanted or either would do.
-abbrev pub IsChoice : Operation → Chosen → Type 0
+abbrev pub IsChoice : ThingOperation → Chosen → Type 0
 IsChoice o c = (only : Option Scheme) × IsChosen (json_of o.tree.now) (wanted o.op only) o.name.now c
 
 -- The chosen request can be sent over CoAP: its method has a code, and its path can be sent.

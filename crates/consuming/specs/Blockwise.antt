@@ -25,8 +25,8 @@ nothing_joined input = record { input = input; asked = first_blocks input; joine
 -- ## The value that is handed in
 
 -- 2.31, "Continue": a server took a block, and others may follow (section 2.9.1)
-abbrev pub go_on : ℕ
-go_on = 95
+abbrev pub continue_code : ℕ
+continue_code = 95
 
 -- After a block that a server took comes the next one, where its number has 20 bits. After the last there is nothing to go on
 -- with.
@@ -38,13 +38,13 @@ after_block size b =
 
 -- the step after a 2.31 to a request with these blocks: it goes on where a block was sent and none asked for, and is
 -- else an answer like any other
-abbrev pub after_go_on : ℕ → Option Block → Option Block → Option NextStep
-after_go_on size (Some b) None = Some (after_block size b)
-after_go_on size (Some b) (Some asked) = None
-after_go_on size None asked = None
+abbrev pub after_continue : ℕ → Option Block → Option Block → Option NextStep
+after_continue size (Some b) None = Some (after_block size b)
+after_continue size (Some b) (Some asked) = None
+after_continue size None asked = None
 
 abbrev pub after_code : Transferred → ℕ → Option NextStep
-after_code t code = if code == go_on then after_go_on (input_size t.input) t.asked.block1 t.asked.block2 else None
+after_code t code = if code == continue_code then after_continue (input_size t.input) t.asked.block1 t.asked.block2 else None
 
 -- ## The value that comes back
 

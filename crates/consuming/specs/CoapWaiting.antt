@@ -21,7 +21,7 @@ use Rattle.wot_consumer.specs.declared.chosen.Chosen.{Chosen}
 use Rattle.consuming.specs.declared.purpose.Purpose.{Purpose}
 use Rattle.consuming.specs.declared.consumed.Consumed.{Consumed}
 use Rattle.consuming.specs.declared.consumed.Consumed.TheVariants.{Done, Other, Silent, Failed, Unprinted, Spent, NoMemory}
-use Rattle.consuming.specs.declared.consumed.Outcome.TheVariants as outcome
+use Rattle.consuming.specs.declared.consumed.ConsumedOutcome.TheVariants as outcome
 use Rattle.consuming.specs.declared.consumed.Status.TheVariants as status
 use Rattle.consuming.specs.declared.answers.Verdict.{Verdict}
 use Rattle.consuming.specs.declared.answers.Verdict.TheVariants as verdict

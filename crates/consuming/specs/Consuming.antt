@@ -20,12 +20,12 @@ use Rattle.servient_outside.specs.declared.net.Act.TheVariants as act
 use Rattle.servient_outside.specs.declared.net.Dialled.TheVariants as dialled
 use Rattle.servient_outside.specs.declared.net.Found.TheVariants as found
 use Rattle.servient_outside.specs.Network.{Happening, did, dials_as, finds_as}
-use Rattle.consuming.specs.declared.operation.Operation.{Operation}
+use Rattle.consuming.specs.declared.operation.ThingOperation.{ThingOperation}
 use Rattle.consuming.specs.declared.purpose.Purpose.{Purpose}
 use Rattle.consuming.specs.declared.purpose.Purpose.TheVariants as purpose
 use Rattle.consuming.specs.declared.consumed.Consumed.{Consumed}
 use Rattle.consuming.specs.declared.consumed.Consumed.TheVariants.{Other, Failed, NoMemory}
-use Rattle.consuming.specs.declared.consumed.Outcome.TheVariants as outcome
+use Rattle.consuming.specs.declared.consumed.ConsumedOutcome.TheVariants as outcome
 use Rattle.consuming.specs.declared.waiting.Waiting.TheVariants.{Http, Coap}
 use Rattle.consuming.specs.declared.coap_waiting.CoapWaiting.{CoapWaiting}
 use Rattle.consuming.specs.Deeds.{Deed, happens, happen}
@@ -85,15 +85,15 @@ pub data AsksOrNot (p : Purpose) (c : Chosen) (body : Option (List ℕ)) (deeds 
   has_body : AsksBy p c body c.scheme deeds r → AsksOrNot p c body deeds r
 
 -- the value that is handed in
-abbrev pub input_of : Operation → Option Json
+abbrev pub input_of : ThingOperation → Option Json
 input_of o = option_map (λ v. json_of v.now) o.input
 
 -- the value handed in is accepted
-abbrev pub TakesInput : Operation → Type 0
+abbrev pub TakesInput : ThingOperation → Type 0
 TakesInput o = AcceptsInput (json_of o.tree.now) o.op o.name.now (input_of o)
 
 -- One operation by what was chosen for it: what is done, and how it ends.
-pub data Consumes (o : Operation) (c : Chosen) (deeds : List Deed) (r : Consumed) : Type 0 where
+pub data Consumes (o : ThingOperation) (c : Chosen) (deeds : List Deed) (r : Consumed) : Type 0 where
   is_refused : ¬ (TakesInput o) → deeds ≡ [] → r ≡ Other outcome.Input → Consumes o c deeds r
   input_memory : deeds ≡ [] → r ≡ NoMemory → Consumes o c deeds r
   is_done : TakesInput o → AsksOrNot (purpose.Operation o) c (option_map text_of (input_of o)) deeds r → Consumes o c deeds r

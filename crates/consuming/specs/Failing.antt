@@ -2,12 +2,12 @@
 use Rattle.std.specs.Prelude.{◌≤◌, List}
 use Rattle.servient_outside.specs.Network.{break_count}
 use Rattle.wot_consumer.specs.declared.chosen.Chosen.{Chosen}
-use Rattle.consuming.specs.declared.operation.Operation.{Operation}
+use Rattle.consuming.specs.declared.operation.ThingOperation.{ThingOperation}
 use Rattle.consuming.specs.declared.consumed.Consumed.TheVariants.{Failed}
 use Rattle.consuming.specs.Deeds.{Deed, happened_in}
 use Rattle.consuming.specs.Consuming.{Consumes, Discovers}
 
 -- In an operation that ended so a call of the network failed, and so in a discovery: nothing that comes leads to that.
 pub record FailingBreaksTheNetwork : Type 0 where
-  pub consumes : (o : Operation) (c : Chosen) (deeds : List Deed) → Consumes o c deeds Failed → 1 ≤ break_count (happened_in deeds)
+  pub consumes : (o : ThingOperation) (c : Chosen) (deeds : List Deed) → Consumes o c deeds Failed → 1 ≤ break_count (happened_in deeds)
   pub discovers : (c : Chosen) (deeds : List Deed) → Discovers c deeds Failed → 1 ≤ break_count (happened_in deeds)

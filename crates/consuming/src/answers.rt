@@ -4,7 +4,7 @@ ghost use Rattle.std.specs.Prelude.{◌≡◌, ◌/◌, IfOk, true};
 ghost use Rattle.consuming.specs.Answers.{is_success as is_success_status, AnswersAs, CanBeAsked, CanBeJudged, LinksComeTo, ReceivesAs, ScansAs, SucceedsAs, ValueComesTo};
 
 use crate::judgement::{Judged, judge_payload};
-use crate::{Operation, Outcome, Purpose, Status, Task};
+use crate::{ClientTask, ConsumedOutcome, Purpose, Status, ThingOperation};
 use http_wire::{Body, ReplyScan, scan_reply};
 use servient_base::NoMemory;
 use std::alloc::Global;
@@ -18,13 +18,13 @@ pub enum Verdict {
     Payload(Bytes),
     /// The links were read, and these are the lines of the Things to which they lead.
     Lines(Bytes),
-    Outcome(Outcome),
+    Outcome(ConsumedOutcome),
     /// Out of memory.
     NoMemory,
 }
 
 /// The verdict on these bytes of a connection, which has ended or goes on; nothing while the reply may still come.
-pub fn receive(task: &Task<'_>, received: &[u8], ended: bool) -> Option<Verdict>
+pub fn receive(task: &ClientTask<'_>, received: &[u8], ended: bool) -> Option<Verdict>
     requires { CanBeJudged task.now.purpose }
     ensures { ReceivesAs task.now.purpose ended received.now result }
 {
@@ -32,32 +32,32 @@ pub fn receive(task: &Task<'_>, received: &[u8], ended: bool) -> Option<Verdict>
 }
 
 /// The verdict on a scan.
-fn scanned(task: &Task<'_>, scan: ReplyScan<'_>, ended: bool) -> Option<Verdict>
+fn scanned(task: &ClientTask<'_>, scan: ReplyScan<'_>, ended: bool) -> Option<Verdict>
     requires { CanBeJudged task.now.purpose }
     ensures { ScansAs task.now.purpose ended scan.entry result }
 {
     match scan {
         ReplyScan::Short => {
             if ended {
-                Some(Verdict::Outcome(Outcome::Closed))
+                Some(Verdict::Outcome(ConsumedOutcome::Closed))
             } else {
                 None
             }
         }
         ReplyScan::Whole { status, body } => Some(answer(task, status, &body)),
-        ReplyScan::Fault => Some(Verdict::Outcome(Outcome::Malformed)),
-        ReplyScan::TooLong => Some(Verdict::Outcome(Outcome::Long)),
+        ReplyScan::Fault => Some(Verdict::Outcome(ConsumedOutcome::Malformed)),
+        ReplyScan::TooLong => Some(Verdict::Outcome(ConsumedOutcome::Long)),
     }
 }
 
 /// The verdict on an answer over HTTP with this status and this body.
-fn answer(task: &Task<'_>, status: u16, body: &Body<'_>) -> Verdict
+fn answer(task: &ClientTask<'_>, status: u16, body: &Body<'_>) -> Verdict
     requires { CanBeJudged task.now.purpose }
     ensures { AnswersAs task.now.purpose (Status.Http status) body.now result }
 {
     let status = Status::Http(status);
     if !is_success(status) {
-        return Verdict::Outcome(Outcome::Status(status));
+        return Verdict::Outcome(ConsumedOutcome::Status(status));
     }
     match payload_of(task.alloc, body) {
         Ok(payload) => judge(task, status, payload),
@@ -66,13 +66,13 @@ fn answer(task: &Task<'_>, status: u16, body: &Body<'_>) -> Verdict
 }
 
 /// The verdict on an answer over CoAP with this code and this payload.
-pub fn answer_message(task: &Task<'_>, code: u8, payload: &[u8]) -> Verdict
+pub fn answer_message(task: &ClientTask<'_>, code: u8, payload: &[u8]) -> Verdict
     requires { CanBeJudged task.now.purpose }
     ensures { AnswersAs task.now.purpose (Status.Coap code) payload.now result }
 {
     let status = Status::Coap(code);
     if !is_success(status) {
-        return Verdict::Outcome(Outcome::Status(status));
+        return Verdict::Outcome(ConsumedOutcome::Status(status));
     }
     match Bytes::copy_of(task.alloc, payload) {
         Ok(payload) => judge(task, status, payload),
@@ -100,7 +100,7 @@ fn payload_of(alloc: Global, body: &Body<'_>) -> Result<Bytes, NoMemory>
 }
 
 /// The verdict on an answer of success with this payload.
-fn judge(task: &Task<'_>, status: Status, payload: Bytes) -> Verdict
+fn judge(task: &ClientTask<'_>, status: Status, payload: Bytes) -> Verdict
     requires { CanBeJudged task.now.purpose }
     ensures { SucceedsAs task.now.purpose status payload result }
 {
@@ -111,14 +111,19 @@ fn judge(task: &Task<'_>, status: Status, payload: Bytes) -> Verdict
 }
 
 /// The verdict on an answer of success to an operation, with this payload.
-fn judge_value(alloc: Global, operation: &Operation<'_>, status: Status, payload: Bytes) -> Verdict
+fn judge_value(
+    alloc: Global,
+    operation: &ThingOperation<'_>,
+    status: Status,
+    payload: Bytes,
+) -> Verdict
     requires { CanBeAsked operation.now }
     ensures { ValueComesTo operation.now status payload result }
 {
     match judge_payload(alloc, operation, status, payload.as_slice()) {
         Judged::Taken => Verdict::Payload(payload),
-        Judged::NotTaken => Verdict::Outcome(Outcome::Output),
-        Judged::Unread => Verdict::Outcome(Outcome::Malformed),
+        Judged::NotTaken => Verdict::Outcome(ConsumedOutcome::Output),
+        Judged::Unread => Verdict::Outcome(ConsumedOutcome::Malformed),
         Judged::NoMemory => Verdict::NoMemory,
     }
 }
@@ -129,7 +134,7 @@ fn judge_links(alloc: Global, server: &str, payload: &[u8]) -> Verdict
 {
     match things_in(alloc, server, payload) {
         Ok(Some(lines)) => Verdict::Lines(lines),
-        Ok(None) => Verdict::Outcome(Outcome::Malformed),
+        Ok(None) => Verdict::Outcome(ConsumedOutcome::Malformed),
         Err(_) => Verdict::NoMemory,
     }
 }

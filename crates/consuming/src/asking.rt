@@ -15,7 +15,7 @@ use crate::block_transfer::slice_of;
 use crate::coap_asking::ask_by_coap;
 use crate::http_waiting::HttpWaiting;
 use crate::waiting::{Came, Waiting};
-use crate::{Consumed, Operation, Outcome, Purpose, Task};
+use crate::{ClientTask, Consumed, ConsumedOutcome, Purpose, ThingOperation};
 use servient_outside::{Dialled, Net, Next, Out};
 use std::alloc::Global;
 use wot_consumer::{Chosen, Scheme, http_request, judge_input};
@@ -32,7 +32,7 @@ pub const MOST_EVENTS: u64 = 100_000;
 /// nothing is sent. Where it is out of memory, the request may have been sent.
 pub fn consume<N: Net, O: Out>(
     alloc: Global,
-    operation: &Operation<'_>,
+    operation: &ThingOperation<'_>,
     chosen: &Chosen,
     net: &mut N,
     out: &mut O,
@@ -43,7 +43,7 @@ pub fn consume<N: Net, O: Out>(
         (sight (N.seen net.old) (O.seen out.old)) (sight (N.seen net.new) (O.seen out.new)) (put_of result) }
 {
     let purpose = Purpose::Operation(*operation);
-    let task = Task {
+    let task = ClientTask {
         alloc,
         purpose,
         chosen,
@@ -57,13 +57,18 @@ pub fn consume<N: Net, O: Out>(
         operation.input,
     ) {
         Ok(true) => ask(&task, operation.input, net, out),
-        Ok(false) => Consumed::Other(Outcome::Input),
+        Ok(false) => Consumed::Other(ConsumedOutcome::Input),
         Err(_) => Consumed::NoMemory,
     }
 }
 
 /// Asks with the text of the value that is handed in, or with none.
-fn ask<N: Net, O: Out>(task: &Task<'_>, input: Option<&Tree>, net: &mut N, out: &mut O) -> Consumed
+fn ask<N: Net, O: Out>(
+    task: &ClientTask<'_>,
+    input: Option<&Tree>,
+    net: &mut N,
+    out: &mut O,
+) -> Consumed
     requires asked { CanBeJudged task.now.purpose }
     requires askable { task.now.chosen.now.scheme ≡ scheme.Coap → IsAskable task.now.chosen.now }
     ensures { Shows (λ deeds. AsksOrNot task.now.purpose task.now.chosen.now
@@ -81,7 +86,7 @@ fn ask<N: Net, O: Out>(task: &Task<'_>, input: Option<&Tree>, net: &mut N, out: 
 
 /// Asks with this body, or with none.
 fn ask_with<N: Net, O: Out>(
-    task: &Task<'_>,
+    task: &ClientTask<'_>,
     body: Option<Bytes>,
     net: &mut N,
     out: &mut O,
@@ -99,7 +104,7 @@ fn ask_with<N: Net, O: Out>(
 
 /// Asks over HTTP.
 fn ask_by_http<N: Net, O: Out>(
-    task: &Task<'_>,
+    task: &ClientTask<'_>,
     body: Option<&[u8]>,
     net: &mut N,
     out: &mut O,
@@ -117,7 +122,7 @@ fn ask_by_http<N: Net, O: Out>(
 
 /// Dials, sends a request, and awaits its reply.
 fn send_by_http<N: Net, O: Out>(
-    task: &Task<'_>,
+    task: &ClientTask<'_>,
     request: &[u8],
     net: &mut N,
     out: &mut O,
@@ -140,7 +145,7 @@ fn send_by_http<N: Net, O: Out>(
 /// Takes events until one ends the wait, and at most this many. The wait is lent, because a function that owned it
 /// would give it up at each way out.
 pub fn await_end<N: Net, O: Out>(
-    task: &Task<'_>,
+    task: &ClientTask<'_>,
     waiting: &mut Waiting,
     most: u64,
     net: &mut N,

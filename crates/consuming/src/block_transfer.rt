@@ -6,7 +6,7 @@ ghost use Rattle.coap_msg.specs.Blocks.{IsBlock};
 ghost use Rattle.coap_client.specs.Asking.{asking_of};
 ghost use Rattle.consuming.specs.declared.blocks.Blocks.{Blocks as BlocksSeen};
 ghost use Rattle.consuming.specs.Asking.{AreBlocks, asking_for, input_size as size_of_input, observe_for as observe_of};
-ghost use Rattle.consuming.specs.Blockwise.{after_block as step_after_block, after_go_on as step_after_go_on, after_joining as step_after_joining, after_one as step_after_one};
+ghost use Rattle.consuming.specs.Blockwise.{after_block as step_after_block, after_continue as step_after_continue, after_joining as step_after_joining, after_one as step_after_one};
 
 use crate::blocks::{Blocks, first_blocks, input_block, part_of};
 use crate::coap_asking::method_code;
@@ -21,7 +21,7 @@ const NUMBERS: u32 = 1 << 20;
 
 /// An answer that isn't a value of what is observed.
 #[derive(Clone, Copy)]
-pub struct Answer<'a> {
+pub struct RequestAnswer<'a> {
     /// The code, its class in the upper three bits.
     pub code: u8,
     /// The block of its body that it has.
@@ -107,7 +107,7 @@ impl BlockTransfer {
     }
 
     /// Takes an answer, which is joined with those before it or isn't, and says what follows.
-    pub fn take(&mut self, joins: bool, answer: &Answer<'_>) -> NextStep
+    pub fn take(&mut self, joins: bool, answer: &RequestAnswer<'_>) -> NextStep
         requires { IfSome answer.now.block2 IsBlock }
         ensures step { result ≡ (after_answer joins self.old answer.now.code answer.now.block2 answer.now.payload.now).0 }
         ensures transfer { self.new ≡ record self.old {
@@ -129,11 +129,11 @@ impl BlockTransfer {
         if code != CONTINUE {
             return None;
         }
-        after_go_on(input_size(&self.input), self.asked)
+        after_continue(input_size(&self.input), self.asked)
     }
 
     /// Takes an answer that ends the sending.
-    fn end(&mut self, joins: bool, answer: &Answer<'_>) -> NextStep
+    fn end(&mut self, joins: bool, answer: &RequestAnswer<'_>) -> NextStep
         requires { IfSome answer.now.block2 IsBlock }
         ensures step { result ≡ (after_end joins self.old answer.now.code answer.now.block2 answer.now.payload.now).0 }
         ensures transfer { self.new ≡ record self.old {
@@ -204,9 +204,9 @@ fn observe_for(observe: bool) -> Option<bool>
 
 /// The next step after a 2.31 to a request with these blocks, where so many bytes are handed in; none, where that is an
 /// answer like any other.
-fn after_go_on(size: usize, asked: Blocks) -> Option<NextStep>
+fn after_continue(size: usize, asked: Blocks) -> Option<NextStep>
     requires { AreBlocks asked }
-    ensures ok { result ≡ step_after_go_on size asked.block1 asked.block2 }
+    ensures ok { result ≡ step_after_continue size asked.block1 asked.block2 }
     ensures blocks { (b : BlocksSeen) → result ≡ Some (NextStep.Ask b) → AreBlocks b }
 {
     match asked.block1 {

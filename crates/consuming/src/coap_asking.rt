@@ -12,7 +12,7 @@ use crate::asking::{MOST_EVENTS, await_end};
 use crate::block_transfer::BlockTransfer;
 use crate::coap_waiting::CoapWaiting;
 use crate::waiting::Waiting;
-use crate::{Consumed, Outcome, Task};
+use crate::{ClientTask, Consumed, ConsumedOutcome};
 use coap_client::{Client, Transfer};
 use coap_msg::{DELETE, EMPTY, GET, POST, PUT};
 use servient_outside::{Found, Net, Out};
@@ -24,7 +24,7 @@ const FIRST_ID: u16 = 0;
 
 /// Asks over CoAP with this body, or with none, and awaits what comes of it.
 pub fn ask_by_coap<N: Net, O: Out>(
-    task: &Task<'_>,
+    task: &ClientTask<'_>,
     body: Option<Bytes>,
     net: &mut N,
     out: &mut O,
@@ -42,7 +42,7 @@ pub fn ask_by_coap<N: Net, O: Out>(
 
 /// Asks with a new client.
 fn make_client<N: Net, O: Out>(
-    task: &Task<'_>,
+    task: &ClientTask<'_>,
     transfer: BlockTransfer,
     net: &mut N,
     out: &mut O,
@@ -61,7 +61,7 @@ fn make_client<N: Net, O: Out>(
 
 /// Looks the server up, and asks there.
 fn find<N: Net, O: Out>(
-    task: &Task<'_>,
+    task: &ClientTask<'_>,
     client: Client,
     transfer: BlockTransfer,
     net: &mut N,
@@ -92,7 +92,7 @@ fn find<N: Net, O: Out>(
 
 /// Asks the server, where that fits into a message.
 fn ask_peer<N: Net, O: Out>(
-    task: &Task<'_>,
+    task: &ClientTask<'_>,
     waiting: CoapWaiting,
     net: &mut N,
     out: &mut O,
@@ -110,7 +110,7 @@ fn ask_peer<N: Net, O: Out>(
             let mut waiting = Waiting::Coap(waiting);
             await_end(task, &mut waiting, MOST_EVENTS, net, out)
         }
-        Err(_) => Consumed::Other(Outcome::Long),
+        Err(_) => Consumed::Other(ConsumedOutcome::Long),
     }
 }
 

@@ -12,12 +12,12 @@ ghost use Rattle.consuming.specs.Blockwise.{is_joined as is_joined_of};
 ghost use Rattle.consuming.specs.CoapWaiting.{awaits_more as awaits_further, replied, AfterValue, AsksFurther, Cancels, DeliversNews, FallsDue, Follows, FollowsAnswer, FollowsValue, HearsByCoap, Meets, Sends};
 
 use crate::answers::answer_message;
-use crate::block_transfer::{Answer, BlockTransfer, NextStep};
+use crate::block_transfer::{BlockTransfer, NextStep, RequestAnswer};
 use crate::blocks::Blocks;
 use crate::coap_asking::method_code;
 use crate::printing::close;
 use crate::waiting::Came;
-use crate::{Consumed, Outcome, Task};
+use crate::{ClientTask, Consumed, ConsumedOutcome};
 use coap_client::{Ask, Client, ClientFault, Due, News};
 use coap_msg::{CONTENT, Endpoint, GET, LONGEST_MESSAGE};
 use servient_outside::{Net, Out, What};
@@ -41,7 +41,7 @@ impl CoapWaiting {
     /// Takes an event, does what it and the moment ask for, and says how the operation ends by that, or that it goes on.
     pub fn hear<N: Net, O: Out>(
         &mut self,
-        task: &Task<'_>,
+        task: &ClientTask<'_>,
         came: &Came<'_>,
         net: &mut N,
         out: &mut O,
@@ -63,7 +63,7 @@ impl CoapWaiting {
     /// Does what an event asks for.
     fn meet<N: Net, O: Out>(
         &mut self,
-        task: &Task<'_>,
+        task: &ClientTask<'_>,
         came: &Came<'_>,
         net: &mut N,
         out: &mut O,
@@ -80,7 +80,7 @@ impl CoapWaiting {
                 let news = self.deliver(from, came.bytes, net);
                 self.follow(task, news, net, out)
             }
-            What::Stop => Some(Consumed::Other(Outcome::Stopped)),
+            What::Stop => Some(Consumed::Other(ConsumedOutcome::Stopped)),
             _ => None,
         }
     }
@@ -103,7 +103,7 @@ impl CoapWaiting {
     /// Does what news ask for.
     fn follow<N: Net, O: Out>(
         &mut self,
-        task: &Task<'_>,
+        task: &ClientTask<'_>,
         news: News<'_>,
         net: &mut N,
         out: &mut O,
@@ -119,9 +119,9 @@ impl CoapWaiting {
         match news {
             News::Nothing => None,
             News::Old => None,
-            News::Reset => Some(Consumed::Other(Outcome::Reset)),
+            News::Reset => Some(Consumed::Other(ConsumedOutcome::Reset)),
             News::Answered(code, block2, payload) => {
-                let answer = Answer {
+                let answer = RequestAnswer {
                     code,
                     block2,
                     payload,
@@ -135,8 +135,8 @@ impl CoapWaiting {
     /// Does what an answer asks for.
     fn follow_answer<N: Net, O: Out>(
         &mut self,
-        task: &Task<'_>,
-        answer: &Answer<'_>,
+        task: &ClientTask<'_>,
+        answer: &RequestAnswer<'_>,
         net: &mut N,
         out: &mut O,
     ) -> Option<Consumed>
@@ -155,8 +155,8 @@ impl CoapWaiting {
                 let payload = self.transfer.whole(joins, answer.payload);
                 Some(close(answer_message(task, answer.code, payload), out))
             }
-            NextStep::Malformed => Some(Consumed::Other(Outcome::Malformed)),
-            NextStep::Long => Some(Consumed::Other(Outcome::Long)),
+            NextStep::Malformed => Some(Consumed::Other(ConsumedOutcome::Malformed)),
+            NextStep::Long => Some(Consumed::Other(ConsumedOutcome::Long)),
         }
     }
 
@@ -176,14 +176,14 @@ impl CoapWaiting {
     {
         match self.send(chosen, blocks, net) {
             Ok(()) => None,
-            Err(_) => Some(Consumed::Other(Outcome::Long)),
+            Err(_) => Some(Consumed::Other(ConsumedOutcome::Long)),
         }
     }
 
     /// Prints a value of what is observed, and goes on or ends.
     fn follow_value<N: Net, O: Out>(
         &mut self,
-        task: &Task<'_>,
+        task: &ClientTask<'_>,
         payload: &[u8],
         net: &mut N,
         out: &mut O,

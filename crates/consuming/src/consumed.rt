@@ -6,7 +6,7 @@ pub enum Consumed {
     /// It was done. Each payload that it brought was printed, where it isn't empty, or the lines of the Things.
     Done,
     /// It came to something else, and nothing of that was printed.
-    Other(Outcome),
+    Other(ConsumedOutcome),
     /// The deadline passed without an answer.
     Silent,
     /// The network failed.
@@ -21,7 +21,7 @@ pub enum Consumed {
 
 /// The outcome of an operation that wasn't done.
 #[derive(Clone, Copy, Debug, PartialEq, Eq)]
-pub enum Outcome {
+pub enum ConsumedOutcome {
     /// The value handed in isn't as the description says, and nothing was sent.
     Input,
     /// The value that came back isn't as the description says.

@@ -7,7 +7,7 @@ ghost use Rattle.consuming.specs.Asking.{IsAskable};
 ghost use Rattle.consuming.specs.Consuming.{Discovers};
 
 use crate::coap_asking::ask_by_coap;
-use crate::{Consumed, Purpose, Task};
+use crate::{ClientTask, Consumed, Purpose};
 use servient_outside::{Net, Out};
 use std::alloc::Global;
 use wot_consumer::{Chosen, links_request, server_url};
@@ -62,7 +62,7 @@ fn ask_server<'a, N: Net, O: Out>(
         (sight (N.seen net.old) (O.seen out.old)) (sight (N.seen net.new) (O.seen out.new)) (put_of result) }
 {
     let purpose = Purpose::Discovery(server);
-    let task = Task {
+    let task = ClientTask {
         alloc,
         purpose,
         chosen: request,

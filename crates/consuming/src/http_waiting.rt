@@ -11,7 +11,7 @@ ghost use Rattle.consuming.specs.HttpWaiting.{at_deadline as ends_at_deadline};
 use crate::answers::{Verdict, receive};
 use crate::printing::close;
 use crate::waiting::Came;
-use crate::{Consumed, Outcome, Task};
+use crate::{ClientTask, Consumed, ConsumedOutcome};
 use servient_base::{ConnectionId, NoMemory};
 use servient_outside::{Out, What};
 use std::alloc::Global;
@@ -46,7 +46,7 @@ impl HttpWaiting {
     /// Takes an event, prints what it brings, and says how the operation ends by it, or that it goes on.
     pub fn hear<O: Out>(
         &mut self,
-        task: &Task<'_>,
+        task: &ClientTask<'_>,
         came: &Came<'_>,
         out: &mut O,
     ) -> Option<Consumed>
@@ -63,7 +63,7 @@ impl HttpWaiting {
     }
 
     /// Keeps the bytes that came, and gives the verdict on them.
-    fn take(&mut self, task: &Task<'_>, came: &Came<'_>) -> Option<Verdict>
+    fn take(&mut self, task: &ClientTask<'_>, came: &Came<'_>) -> Option<Verdict>
         requires { CanBeJudged task.now.purpose }
         ensures brings { Brings task.now.purpose self.old.connection
             (self.old.received ++ bytes_on self.old.connection came.now.event.what came.now.bytes.now) came.now.event.what result }
@@ -92,7 +92,7 @@ impl HttpWaiting {
     }
 
     /// The verdict on the bytes that came, which were kept; none where it goes on.
-    fn came(&self, task: &Task<'_>, what: What) -> Option<Verdict>
+    fn came(&self, task: &ClientTask<'_>, what: What) -> Option<Verdict>
         requires { CanBeJudged task.now.purpose }
         ensures { Brings task.now.purpose self.now.connection self.now.received what result }
     {
@@ -103,7 +103,7 @@ impl HttpWaiting {
             What::Ended(connection) if connection == self.connection => {
                 receive(task, self.received.as_slice(), true)
             }
-            What::Stop => Some(Verdict::Outcome(Outcome::Stopped)),
+            What::Stop => Some(Verdict::Outcome(ConsumedOutcome::Stopped)),
             _ => None,
         }
     }

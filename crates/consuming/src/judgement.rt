@@ -4,7 +4,7 @@ ghost use Rattle.std.specs.Prelude.{◌≡◌, ◌≢◌, ◌↔◌, IfOk, IfErr
 ghost use Rattle.wot_json.specs.Meaning.{json_of};
 ghost use Rattle.consuming.specs.Answers.{value_in, is_created as is_created_status, CanBeAsked, IsTaken, IsJudged};
 
-use crate::{Operation, Status};
+use crate::{Status, ThingOperation};
 use servient_base::NoMemory;
 use std::alloc::Global;
 use wot_consumer::judge_output;
@@ -32,7 +32,7 @@ pub enum Judged {
 /// The judgement of the payload of an answer with this status.
 pub fn judge_payload(
     alloc: Global,
-    operation: &Operation<'_>,
+    operation: &ThingOperation<'_>,
     status: Status,
     payload: &[u8],
 ) -> Judged
@@ -79,7 +79,7 @@ fn is_created(status: Status) -> bool
 /// The description takes the value that comes back, or it isn't judged.
 fn is_taken(
     alloc: Global,
-    operation: &Operation<'_>,
+    operation: &ThingOperation<'_>,
     status: Status,
     value: Option<&Tree>,
 ) -> Result<bool, NoMemory>

@@ -36,9 +36,9 @@ mod task;
 mod waiting;
 
 pub use asking::consume;
-pub use consumed::{Consumed, Outcome, Status};
+pub use consumed::{Consumed, ConsumedOutcome, Status};
 pub use discovering::discover;
 pub use laws::failing_breaks_the_network;
-pub use operation::Operation;
+pub use operation::ThingOperation;
 pub(crate) use purpose::Purpose;
-pub(crate) use task::Task;
+pub(crate) use task::ClientTask;

@@ -5,7 +5,7 @@ use wot_terms::Op;
 
 /// An operation of a Thing.
 #[derive(Clone, Copy)]
-pub struct Operation<'a> {
+pub struct ThingOperation<'a> {
     /// The Thing's description.
     pub tree: &'a Tree,
     pub op: Op,

@@ -3,13 +3,13 @@
 ghost use Rattle.std.specs.Prelude.{◌≡◌};
 ghost use Rattle.consuming.specs.Answers.{count_of};
 
-use crate::Operation;
+use crate::ThingOperation;
 
 /// The purpose of a request: it says what an answer of success comes to.
 #[derive(Clone, Copy)]
 pub enum Purpose<'a> {
     /// An operation of a Thing, by whose description a payload is judged.
-    Operation(Operation<'a>),
+    Operation(ThingOperation<'a>),
     /// To learn the Things of the server with this URL, of which a payload is the links (RFC 6690).
     Discovery(&'a str),
 }

@@ -6,7 +6,7 @@ use wot_consumer::Chosen;
 
 /// The request, its purpose, and the allocator of its memory.
 #[derive(Clone, Copy)]
-pub struct Task<'a> {
+pub struct ClientTask<'a> {
     pub alloc: Global,
     pub purpose: Purpose<'a>,
     pub chosen: &'a Chosen,

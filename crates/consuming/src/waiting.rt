@@ -6,7 +6,7 @@ ghost use Rattle.consuming.specs.Waiting.{event_of, Hears, IsReady};
 
 use crate::coap_waiting::CoapWaiting;
 use crate::http_waiting::HttpWaiting;
-use crate::{Consumed, Task};
+use crate::{ClientTask, Consumed};
 use servient_outside::{Event, Net, Out};
 
 /// An event and the bytes that came with it.
@@ -27,7 +27,7 @@ impl Waiting {
     /// Takes an event, does what it asks for, and says how the operation ends by that, or that it goes on.
     pub fn hear<N: Net, O: Out>(
         &mut self,
-        task: &Task<'_>,
+        task: &ClientTask<'_>,
         came: &Came<'_>,
         net: &mut N,
         out: &mut O,

@@ -4,14 +4,14 @@ use Rattle.std.specs.Prelude.{Option, Some, None, option_map}
 use Rattle.std.specs.List.{list_all}
 use Rattle.std.proofs.lemmas.List.{append-nil}
 use Rattle.std.proofs.lemmas.Bool.{eqb-true}
-use Rattle.core_links.specs.Links.{is_target_byte, is_name_byte, is_token_byte, is_escaped, is_plain, AreSpaces, IsWord, IsQuoted, nothing_quoted, plain, escaped, IsParam, name_alone, with_token, with_quoted, joined, IsLink, target_alone, with_param, AreLinks, one_link, with_link, IsLinkText, no_links, some_links, BeginsLinkText}
+use Rattle.core_links.specs.Links.{is_target_byte, is_name_byte, is_token_byte, is_escaped, is_quoted_byte, AreSpaces, IsWord, IsQuoted, nothing_quoted, plain, escaped, IsParam, name_alone, with_token, with_quoted, joined, IsLink, target_alone, with_param, AreLinks, one_link, with_link, IsLinkText, no_links, some_links, BeginsLinkText}
 use Rattle.core_links.specs.Steps.{run, step, step_at, step_after, stepped, goes, param_ended, with_param_ended, link_ended, may_end, links_at, new_reader}
 use Rattle.core_links.specs.declared.links.Param.{Param}
 use Rattle.core_links.specs.declared.links.Link.{Link}
 use Rattle.core_links.specs.declared.reader.Reader.{Reader}
-use Rattle.core_links.specs.declared.steps.Place.{Place}
-use Rattle.core_links.specs.declared.steps.Place.TheVariants as place
-use Rattle.core_links.specs.declared.steps.Act.TheVariants as act
+use Rattle.core_links.specs.declared.steps.ReaderPlace.{ReaderPlace}
+use Rattle.core_links.specs.declared.steps.ReaderPlace.TheVariants as place
+use Rattle.core_links.specs.declared.steps.ByteUse.TheVariants as act
 use Rattle.core_links.specs.declared.steps.Step.{Step}
 use Rattle.core_links.proofs.Runs.{run_none, by_test}
 use Rattle.core_links.proofs.Stands.{reader, ended_at}
@@ -181,7 +181,7 @@ after_open r text b at =
 open_of : (r : Reader) (text : List ℕ) (ls : List Link) (t : List ℕ) (ps : List Param) → LinkAt text ls t ps → with_param_ended r ≡ reader r.place ls t ps [] None → OpenAt r text
 open_of r text ls t ps at kept = record { before = text; a = []; ls = ls; t = t; ps = ps; link_at = at; a_spaces = refl; text_is = sym (append-nil text); kept = kept }
 
-ended_param : (ls : List Link) (t : List ℕ) (ps : List Param) (n : List ℕ) (v : Option (List ℕ)) (p : Place) → 1 ≤ length n → param_ended n (reader p ls t ps n v) ≡ reader p ls t (ps ++ (record { name = n; value = v }) ∷ []) [] None
+ended_param : (ls : List Link) (t : List ℕ) (ps : List Param) (n : List ℕ) (v : Option (List ℕ)) (p : ReaderPlace) → 1 ≤ length n → param_ended n (reader p ls t ps n v) ≡ reader p ls t (ps ++ (record { name = n; value = v }) ∷ []) [] None
 ended_param ls t ps [] v p some = absurd (omega (arith, some))
 ended_param ls t ps (b ∷ bs) v p some = refl
 
@@ -267,7 +267,7 @@ means_step _ _ b (m_token text ls t ps n v at word value) =
 means_step _ _ b (m_quoted text ls t ps n x v at word value) =
     let r = reader place.Quoted ls t ps n (Some v) in
     let read = text ++ (n ++ 61 ∷ 34 ∷ x) in
-    by_test (is_plain b) (goes place.Quoted act.Value) _ (Keeps r read b)
+    by_test (is_quoted_byte b) (goes place.Quoted act.Value) _ (Keeps r read b)
     (λ e. reads_same _ (read ++ b ∷ []) (text ++ (n ++ 61 ∷ 34 ∷ (x ++ b ∷ []))) (end_3 text n (61 ∷ 34 ∷ x) b) (m_quoted text ls t ps n (x ++ b ∷ []) (v ++ b ∷ []) at word (plain x v b value e)))
     (λ _. by_test (b == 34) (goes place.After act.Skip) _ (Keeps r read b)
     (λ e. m_after (read ++ b ∷ []) ls ls t t ps _ n (Some v) (quoted_closed text ls t ps n x v b at word value (eqb-true b 34 e)) (ended_param ls t ps n (Some v) place.After word.some))
@@ -303,7 +303,7 @@ means_run r s text (b ∷ xs) m e = on (step r b) refl e (λ q is rest. means_ru
 
 -- ---- ends
 
-ended_text : (p : Place) (text : List ℕ) (ls : List Link) (t : List ℕ) (ps : List Param) (r : Reader) → LinkAt text ls t ps → with_param_ended r ≡ reader p ls t ps [] None → IsLinkText text (link_ended (with_param_ended r)).links
+ended_text : (p : ReaderPlace) (text : List ℕ) (ls : List Link) (t : List ℕ) (ps : List Param) (r : Reader) → LinkAt text ls t ps → with_param_ended r ≡ reader p ls t ps [] None → IsLinkText text (link_ended (with_param_ended r)).links
 ended_text p text ls t ps r at kept =
     subst (λ (s : Reader). IsLinkText text (link_ended s).links) (sym kept) (some_links text _ (links_at_end text ls t ps at))
 

@@ -4,7 +4,7 @@ use Rattle.std.specs.Prelude.{Option, Some, None, Result, Ok, Err, not, nat_le}
 use Rattle.std.specs.List.{list_all, flat_map}
 use Rattle.std.specs.Char.{is_ascii_digit}
 use Rattle.std.proofs.lemmas.List.{append-nil}
-use Rattle.core_links.specs.Links.{is_target_byte, is_name_byte, is_token_byte, is_escaped, is_plain, IsWord, IsQuoted, nothing_quoted, plain, escaped, IsParam, name_alone, with_token, with_quoted, IsLink, target_alone, with_param, AreLinks, one_link, with_link, IsLinkText, no_links, some_links, ReadsLinks, read, at, no_memory}
+use Rattle.core_links.specs.Links.{is_target_byte, is_name_byte, is_token_byte, is_escaped, is_quoted_byte, IsWord, IsQuoted, nothing_quoted, plain, escaped, IsParam, name_alone, with_token, with_quoted, IsLink, target_alone, with_param, AreLinks, one_link, with_link, IsLinkText, no_links, some_links, ReadsLinks, read, at, no_memory}
 use Rattle.core_links.specs.Writing.{quoted_byte, are_digits, value_text, set_text, param_text, link_text, further_text, links_text, is_value, is_param, is_link, CanBeWritten}
 use Rattle.core_links.specs.declared.links.Param.{Param}
 use Rattle.core_links.specs.declared.links.Link.{Link}
@@ -34,7 +34,7 @@ word_of : (p : ℕ → Bool) (n : List ℕ) → nat_le 1 (length n) ≡ true →
 word_of p [] some all = absurd cc
 word_of p (b ∷ n) some all = record { all = all; some = omega arith }
 
-plain_of : (b : ℕ) → nat_le 32 b ≡ true → is_escaped b ≡ false → is_plain b ≡ true
+plain_of : (b : ℕ) → nat_le 32 b ≡ true → is_escaped b ≡ false → is_quoted_byte b ≡ true
 plain_of b big is = both_so (nat_le 32 b) (is_escaped b) big is
   where
     both_so : (c d : Bool) → c ≡ true → d ≡ false → (c && not d) ≡ true

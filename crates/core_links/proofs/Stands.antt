@@ -4,29 +4,29 @@ use Rattle.std.specs.Prelude.{Option, Some, None, option_map}
 use Rattle.std.specs.List.{list_all}
 use Rattle.std.proofs.lemmas.List.{append-nil}
 use Rattle.std.proofs.lemmas.Bool.{eqb-true}
-use Rattle.core_links.specs.Links.{is_target_byte, is_name_byte, is_token_byte, is_escaped, is_plain, AreSpaces, IsWord, IsQuoted, nothing_quoted, plain, escaped, IsParam, name_alone, with_token, with_quoted, IsLink, target_alone, with_param, AreLinks, one_link, with_link, IsLinkText, no_links, some_links}
+use Rattle.core_links.specs.Links.{is_target_byte, is_name_byte, is_token_byte, is_escaped, is_quoted_byte, AreSpaces, IsWord, IsQuoted, nothing_quoted, plain, escaped, IsParam, name_alone, with_token, with_quoted, IsLink, target_alone, with_param, AreLinks, one_link, with_link, IsLinkText, no_links, some_links}
 use Rattle.core_links.specs.Steps.{run, step, step_at, stepped, goes, param_ended, with_param_ended, link_ended, may_end, links_at, new_reader}
 use Rattle.core_links.specs.declared.links.Param.{Param}
 use Rattle.core_links.specs.declared.links.Link.{Link}
 use Rattle.core_links.specs.declared.reader.Reader.{Reader}
-use Rattle.core_links.specs.declared.steps.Place.{Place}
-use Rattle.core_links.specs.declared.steps.Place.TheVariants as place
-use Rattle.core_links.specs.declared.steps.Act.TheVariants as act
+use Rattle.core_links.specs.declared.steps.ReaderPlace.{ReaderPlace}
+use Rattle.core_links.specs.declared.steps.ReaderPlace.TheVariants as place
+use Rattle.core_links.specs.declared.steps.ByteUse.TheVariants as act
 use Rattle.core_links.proofs.Runs.{run_then, if_true, both_true}
 
 -- a reader of these parts
-abbrev pub reader : Place → List Link → List ℕ → List Param → List ℕ → Option (List ℕ) → Reader
+abbrev pub reader : ReaderPlace → List Link → List ℕ → List Param → List ℕ → Option (List ℕ) → Reader
 reader p ls t ps n v = record { place = p; links = ls; target = t; params = ps; name = n; value = v }
 
 -- places right after a link as far as it goes
-pub data Closes : Place → Type 0 where
+pub data Closes : ReaderPlace → Type 0 where
   after_it : Closes place.After
   after_name : Closes place.Name
   after_token : Closes place.Token
 
 -- these, and after spaces
-pub data Opens : Place → Type 0 where
-  closed : (p : Place) → Closes p → Opens p
+pub data Opens : ReaderPlace → Type 0 where
+  closed : (p : ReaderPlace) → Closes p → Opens p
   after_spaces : Opens place.Spaces
 
 -- The reader stands after a link of this target and these parameters, which came after these links.
@@ -42,19 +42,19 @@ pub record Comes (from : Reader) (text : List ℕ) (P : Reader → Type 0) : Typ
 
 -- ---- spaces
 
-open_space : (p : Place) → Opens p → step_at p 32 ≡ goes place.Spaces act.Skip
+open_space : (p : ReaderPlace) → Opens p → step_at p 32 ≡ goes place.Spaces act.Skip
 open_space _ (closed _ after_it) = refl
 open_space _ (closed _ after_name) = refl
 open_space _ (closed _ after_token) = refl
 open_space _ after_spaces = refl
 
-open_semicolon : (p : Place) → Opens p → step_at p 59 ≡ goes place.BeforeName act.EndParam
+open_semicolon : (p : ReaderPlace) → Opens p → step_at p 59 ≡ goes place.BeforeName act.EndParam
 open_semicolon _ (closed _ after_it) = refl
 open_semicolon _ (closed _ after_name) = refl
 open_semicolon _ (closed _ after_token) = refl
 open_semicolon _ after_spaces = refl
 
-open_comma : (p : Place) → Opens p → step_at p 44 ≡ goes place.BeforeLink act.EndLink
+open_comma : (p : ReaderPlace) → Opens p → step_at p 44 ≡ goes place.BeforeLink act.EndLink
 open_comma _ (closed _ after_it) = refl
 open_comma _ (closed _ after_name) = refl
 open_comma _ (closed _ after_token) = refl
@@ -68,7 +68,7 @@ spaces_stay r (x ∷ xs) stay all =
     ap (λ (b : ℕ). run (step r b) xs) (eqb-true x 32 both.0) ∙ ap (λ (o : Option Reader). run o xs) stay ∙ spaces_stay r xs stay both.1
 
 -- spaces after a link as far as it goes
-pub spaces_after : (r : Reader) (xs : List ℕ) → Opens r.place → AreSpaces xs → (q : Place) × Opens q × (run (Some r) xs ≡ Some (record r { place = q }))
+pub spaces_after : (r : Reader) (xs : List ℕ) → Opens r.place → AreSpaces xs → (q : ReaderPlace) × Opens q × (run (Some r) xs ≡ Some (record r { place = q }))
 spaces_after r [] opens all = (r.place, opens, refl)
 spaces_after r (x ∷ xs) opens all =
     let both = both_true (x == 32) (list_all (λ b. b == 32) xs) all in
@@ -81,11 +81,11 @@ spaces_after r (x ∷ xs) opens all =
 
 -- ---- the end of a parameter and of a link
 
-param_ended_at : (n : List ℕ) (r : Reader) (q : Place) → param_ended n (record r { place = q }) ≡ record (param_ended n r) { place = q }
+param_ended_at : (n : List ℕ) (r : Reader) (q : ReaderPlace) → param_ended n (record r { place = q }) ≡ record (param_ended n r) { place = q }
 param_ended_at [] r q = refl
 param_ended_at (b ∷ bs) r q = refl
 
-pub ended_at : (ls : List Link) (t : List ℕ) (ps : List Param) (r : Reader) (q : Place) → with_param_ended r ≡ reader r.place ls t ps [] None → with_param_ended (record r { place = q }) ≡ reader q ls t ps [] None
+pub ended_at : (ls : List Link) (t : List ℕ) (ps : List Param) (r : Reader) (q : ReaderPlace) → with_param_ended r ≡ reader r.place ls t ps [] None → with_param_ended (record r { place = q }) ≡ reader q ls t ps [] None
 ended_at ls t ps r q kept = param_ended_at r.name r q ∙ ap (λ (s : Reader). record s { place = q }) kept
 
 -- `;` and spaces around it
@@ -153,14 +153,14 @@ pub quoted_read : (ls : List Link) (t : List ℕ) (ps : List Param) (n x v : Lis
 quoted_read ls t ps n _ _ nothing_quoted = refl
 quoted_read ls t ps n _ _ (plain x v b before is) =
     run_then _ x (b ∷ []) _ _ (quoted_read ls t ps n x v before)
-    (ap (option_map (stepped b (reader place.Quoted ls t ps n (Some v)))) (if_true (is_plain b) (goes place.Quoted act.Value) _ is))
+    (ap (option_map (stepped b (reader place.Quoted ls t ps n (Some v)))) (if_true (is_quoted_byte b) (goes place.Quoted act.Value) _ is))
 quoted_read ls t ps n _ _ (escaped x v b before is) =
     run_then _ x (92 ∷ b ∷ []) _ _ (quoted_read ls t ps n x v before)
     (ap (option_map (stepped b (reader place.Escape ls t ps n (Some v)))) (if_true (is_escaped b) (goes place.Quoted act.Value) _ is))
 
 -- ---- parameters, links, link texts
 
-stands_after : (ls : List Link) (t : List ℕ) (ps : List Param) (n : List ℕ) (v : Option (List ℕ)) (p : Place) → Closes p → 1 ≤ length n → Stands ls t (ps ++ (record { name = n; value = v }) ∷ []) (reader p ls t ps n v)
+stands_after : (ls : List Link) (t : List ℕ) (ps : List Param) (n : List ℕ) (v : Option (List ℕ)) (p : ReaderPlace) → Closes p → 1 ≤ length n → Stands ls t (ps ++ (record { name = n; value = v }) ∷ []) (reader p ls t ps n v)
 stands_after ls t ps [] v p closes some = absurd (omega (arith, some))
 stands_after ls t ps (b ∷ bs) v p closes some = record { closes = closes; kept = refl }
 
@@ -173,15 +173,15 @@ param_read ls t ps _ _ (with_quoted n x v word value) =
     record { to = reader place.After ls t ps n (Some v); run_is = run_then _ n (61 ∷ 34 ∷ (x ++ 34 ∷ [])) _ _ (name_read ls t ps n word) (run_then (Some (reader place.Quoted ls t ps n (Some []))) x (34 ∷ []) _ _ (quoted_read ls t ps n x v value) refl); holds = stands_after ls t ps n (Some v) place.After after_it word.some }
 
 -- places before a link
-pub data Awaits : Place → Type 0 where
+pub data Awaits : ReaderPlace → Type 0 where
   at_start : Awaits place.Start
   before_link : Awaits place.BeforeLink
 
-begun : (p : Place) (ls : List Link) (xs : List ℕ) → Awaits p → run (Some (reader p ls [] [] [] None)) (60 ∷ xs) ≡ run (Some (reader place.Target ls [] [] [] None)) xs
+begun : (p : ReaderPlace) (ls : List Link) (xs : List ℕ) → Awaits p → run (Some (reader p ls [] [] [] None)) (60 ∷ xs) ≡ run (Some (reader place.Target ls [] [] [] None)) xs
 begun _ ls xs at_start = refl
 begun _ ls xs before_link = refl
 
-link_read : (p : Place) (ls : List Link) (text : List ℕ) (link : Link) → Awaits p → IsLink text link → Comes (reader p ls [] [] [] None) text (Stands ls link.target link.params)
+link_read : (p : ReaderPlace) (ls : List Link) (text : List ℕ) (link : Link) → Awaits p → IsLink text link → Comes (reader p ls [] [] [] None) text (Stands ls link.target link.params)
 link_read p ls _ _ awaits (target_alone t all) =
     record { to = reader place.After ls t [] [] None; run_is = begun p ls (t ++ 62 ∷ []) awaits ∙ run_then _ t (62 ∷ []) _ _ (targets ls [] t all) refl; holds = record { closes = after_it; kept = refl } }
 link_read p ls _ _ awaits (with_param before a b text t ps param is_before a_spaces b_spaces is_param) =
@@ -225,12 +225,12 @@ pub record EndsWith (links : List Link) (r : Reader) : Type 0 where
   pub may : may_end r.place ≡ true
   pub links_are : links_at r.place r ≡ links
 
-closes_ends : (p : Place) → Closes p → may_end p ≡ true
+closes_ends : (p : ReaderPlace) → Closes p → may_end p ≡ true
 closes_ends _ after_it = refl
 closes_ends _ after_name = refl
 closes_ends _ after_token = refl
 
-pub closes_links : (p : Place) (r : Reader) → Closes p → links_at p r ≡ (link_ended (with_param_ended r)).links
+pub closes_links : (p : ReaderPlace) (r : Reader) → Closes p → links_at p r ≡ (link_ended (with_param_ended r)).links
 closes_links _ r after_it = refl
 closes_links _ r after_name = refl
 closes_links _ r after_token = refl

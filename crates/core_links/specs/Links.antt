@@ -31,8 +31,8 @@ abbrev pub is_escaped : ℕ → Bool
 is_escaped b = list_any (λ c. c == b) (codes "\"\\")
 
 -- a byte that stands for itself in quotes
-abbrev pub is_plain : ℕ → Bool
-is_plain b = nat_le 32 b && not (is_escaped b)
+abbrev pub is_quoted_byte : ℕ → Bool
+is_quoted_byte b = nat_le 32 b && not (is_escaped b)
 
 -- ---- the grammar
 
@@ -48,7 +48,7 @@ pub record IsWord (is_byte : ℕ → Bool) (text : List ℕ) : Type 0 where
 -- the text between two quotes, and the value that it stands for
 pub data IsQuoted : List ℕ → List ℕ → Type 0 where
   nothing_quoted : IsQuoted [] []
-  plain : (text value : List ℕ) (b : ℕ) → IsQuoted text value → is_plain b ≡ true → IsQuoted (text ++ b ∷ []) (value ++ b ∷ [])
+  plain : (text value : List ℕ) (b : ℕ) → IsQuoted text value → is_quoted_byte b ≡ true → IsQuoted (text ++ b ∷ []) (value ++ b ∷ [])
   escaped : (text value : List ℕ) (b : ℕ) → IsQuoted text value → is_escaped b ≡ true → IsQuoted (text ++ 92 ∷ b ∷ []) (value ++ b ∷ [])
 
 -- a parameter after its `;`: a name, or a name, `=` and a token or a value in quotes

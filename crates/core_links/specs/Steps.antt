@@ -1,18 +1,18 @@
 -- The steps of a reader through a link text, byte by byte, and the values that it keeps. These are the reader's own
 -- words; the grammar defines its result.
 use Rattle.std.specs.Prelude.{◌≡◌, ◌<◌, ℕ, Result, Ok, Err, length, take, slice_index, ◌==◌, List, [], ◌∷◌, ◌++◌, Bool, true, false, Option, Some, None, option_map, option_and_then, if◌then◌else◌}
-use Rattle.core_links.specs.Links.{is_target_byte, is_name_byte, is_token_byte, is_escaped, is_plain}
+use Rattle.core_links.specs.Links.{is_target_byte, is_name_byte, is_token_byte, is_escaped, is_quoted_byte}
 use Rattle.core_links.specs.declared.links.Link.{Link}
-use Rattle.core_links.specs.declared.steps.Place.{Place}
-use Rattle.core_links.specs.declared.steps.Place.TheVariants as place
-use Rattle.core_links.specs.declared.steps.Act.{Act}
-use Rattle.core_links.specs.declared.steps.Act.TheVariants as act
+use Rattle.core_links.specs.declared.steps.ReaderPlace.{ReaderPlace}
+use Rattle.core_links.specs.declared.steps.ReaderPlace.TheVariants as place
+use Rattle.core_links.specs.declared.steps.ByteUse.{ByteUse}
+use Rattle.core_links.specs.declared.steps.ByteUse.TheVariants as act
 use Rattle.core_links.specs.declared.steps.Step.{Step}
 use Rattle.core_links.specs.declared.reader.Reader.{Reader}
 use Rattle.core_links.specs.declared.reading.LinkFault.{LinkFault}
 use Rattle.core_links.specs.declared.reading.LinkFault.TheVariants as fault
 
-abbrev pub goes : Place → Act → Option Step
+abbrev pub goes : ReaderPlace → ByteUse → Option Step
 goes p a = Some (record { place = p; act = a })
 
 -- after a link as far as it goes
@@ -58,7 +58,7 @@ step_token b = if is_token_byte b then goes place.Token act.Value else step_afte
 
 abbrev pub step_quoted : ℕ → Option Step
 step_quoted b =
-    if is_plain b then goes place.Quoted act.Value
+    if is_quoted_byte b then goes place.Quoted act.Value
     else if b == 34 then goes place.After act.Skip
     else if b == 92 then goes place.Escape act.Skip
     else None
@@ -67,7 +67,7 @@ abbrev pub step_escape : ℕ → Option Step
 step_escape b = if is_escaped b then goes place.Quoted act.Value else None
 
 -- the step that a byte makes at a place, if it may stand there
-abbrev pub step_at : Place → ℕ → Option Step
+abbrev pub step_at : ReaderPlace → ℕ → Option Step
 step_at place.Start b = step_start b
 step_at place.BeforeLink b = step_before_link b
 step_at place.Target b = step_target b
@@ -98,7 +98,7 @@ link_ended r = record r { links = r.links ++ (record { target = r.target; params
 abbrev pub value_more : ℕ → Reader → Reader
 value_more b r = record r { value = option_map (λ v. v ++ b ∷ []) r.value }
 
-abbrev pub acted : Act → ℕ → Reader → Reader
+abbrev pub acted : ByteUse → ℕ → Reader → Reader
 acted act.Skip b r = r
 acted act.Target b r = record r { target = r.target ++ b ∷ [] }
 acted act.Name b r = record r { name = r.name ++ b ∷ [] }
@@ -120,7 +120,7 @@ run r [] = r
 run r (b ∷ bs) = run (option_and_then (λ s. step s b) r) bs
 
 -- a link text may end at this place
-abbrev pub may_end : Place → Bool
+abbrev pub may_end : ReaderPlace → Bool
 may_end place.Start = true
 may_end place.BeforeLink = false
 may_end place.Target = false
@@ -134,7 +134,7 @@ may_end place.Quoted = false
 may_end place.Escape = false
 
 -- all links, once the text has ended at this place
-abbrev pub links_at : Place → Reader → List Link
+abbrev pub links_at : ReaderPlace → Reader → List Link
 links_at place.Start r = r.links
 links_at place.BeforeLink r = (link_ended (with_param_ended r)).links
 links_at place.Target r = (link_ended (with_param_ended r)).links

@@ -3,7 +3,7 @@
 ghost use Rattle.std.specs.Prelude.{◌≡◌, [], None, IfOk, OnOk, Some, if◌then◌else◌};
 ghost use Rattle.core_links.specs.Steps as spec;
 
-use crate::steps::{Act, Place, step_at};
+use crate::steps::{ByteUse, ReaderPlace, step_at};
 use crate::{Link, Links, Param, Params};
 use servient_base::NoMemory;
 use std::alloc::Global;
@@ -14,7 +14,7 @@ use wot_json::Bytes;
 /// hasn't ended.
 #[derive(Drop)]
 pub struct Reader {
-    pub place: Place,
+    pub place: ReaderPlace,
     pub links: Links,
     pub target: Bytes,
     pub params: Params,
@@ -28,7 +28,7 @@ impl Reader {
         ensures { result ≡ spec.new_reader }
     {
         Reader {
-            place: Place::Start,
+            place: ReaderPlace::Start,
             links: Links::new(alloc),
             target: Bytes::new(alloc),
             params: Params::new(alloc),
@@ -52,20 +52,20 @@ impl Reader {
     }
 
     /// Does with a byte what its step says.
-    fn act(&mut self, alloc: Global, act: Act, byte: u8) -> Result<(), NoMemory>
+    fn act(&mut self, alloc: Global, act: ByteUse, byte: u8) -> Result<(), NoMemory>
         ensures { OnOk result (self.new ≡ spec.acted act byte self.old) }
     {
         match act {
-            Act::Skip => Ok(()),
-            Act::Target => self.target.push(byte),
-            Act::Name => self.name.push(byte),
-            Act::BeginValue => {
+            ByteUse::Skip => Ok(()),
+            ByteUse::Target => self.target.push(byte),
+            ByteUse::Name => self.name.push(byte),
+            ByteUse::BeginValue => {
                 self.value = Some(Bytes::new(alloc));
                 Ok(())
             }
-            Act::Value => self.push_value(byte),
-            Act::EndParam => self.end_param(alloc),
-            Act::EndLink => {
+            ByteUse::Value => self.push_value(byte),
+            ByteUse::EndParam => self.end_param(alloc),
+            ByteUse::EndLink => {
                 self.end_param(alloc)?;
                 self.end_link(alloc)
             }
@@ -109,7 +109,7 @@ impl Reader {
         ensures { OnOk result (self.new.links ≡ spec.links_at self.old.place self.old) }
     {
         match self.place {
-            Place::Start => Ok(()),
+            ReaderPlace::Start => Ok(()),
             _ => {
                 self.end_param(alloc)?;
                 self.end_link(alloc)

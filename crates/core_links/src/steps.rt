@@ -7,7 +7,7 @@ ghost use Rattle.core_links.specs.Steps as spec;
 
 /// The place of a reader.
 #[derive(Debug, Clone, Copy, PartialEq, Eq, Drop)]
-pub enum Place {
+pub enum ReaderPlace {
     /// At the front of the text.
     Start,
     /// After a `,`, and spaces perhaps.
@@ -33,7 +33,7 @@ pub enum Place {
 
 /// An act of a reader on a byte.
 #[derive(Debug, Clone, Copy, PartialEq, Eq, Drop)]
-pub enum Act {
+pub enum ByteUse {
     /// Nothing is kept of it.
     Skip,
     /// It is of the target.
@@ -53,12 +53,12 @@ pub enum Act {
 /// The place of a reader after a byte, and its act on the byte.
 #[derive(Debug, Clone, Copy, PartialEq, Eq, Drop)]
 pub struct Step {
-    pub place: Place,
-    pub act: Act,
+    pub place: ReaderPlace,
+    pub act: ByteUse,
 }
 
 /// A step.
-fn goes(place: Place, act: Act) -> Option<Step>
+fn goes(place: ReaderPlace, act: ByteUse) -> Option<Step>
     ensures { result ≡ spec.goes place act }
 {
     Some(Step { place, act })
@@ -93,8 +93,8 @@ fn is_escaped(byte: u8) -> bool
 }
 
 /// A byte that stands for itself in quotes.
-fn is_plain(byte: u8) -> bool
-    ensures { result ≡ grammar.is_plain byte }
+fn is_quoted_byte(byte: u8) -> bool
+    ensures { result ≡ grammar.is_quoted_byte byte }
 {
     byte >= b' ' && !is_escaped(byte)
 }
@@ -103,7 +103,7 @@ fn step_start(byte: u8) -> Option<Step>
     ensures { result ≡ spec.step_start byte }
 {
     if byte == b'<' {
-        return goes(Place::Target, Act::Skip);
+        return goes(ReaderPlace::Target, ByteUse::Skip);
     }
     None
 }
@@ -112,7 +112,7 @@ fn step_before_link(byte: u8) -> Option<Step>
     ensures { result ≡ spec.step_before_link byte }
 {
     if byte == b' ' {
-        return goes(Place::BeforeLink, Act::Skip);
+        return goes(ReaderPlace::BeforeLink, ByteUse::Skip);
     }
     step_start(byte)
 }
@@ -121,10 +121,10 @@ fn step_target(byte: u8) -> Option<Step>
     ensures { result ≡ spec.step_target byte }
 {
     if is_target_byte(byte) {
-        return goes(Place::Target, Act::Target);
+        return goes(ReaderPlace::Target, ByteUse::Target);
     }
     if byte == b'>' {
-        return goes(Place::After, Act::Skip);
+        return goes(ReaderPlace::After, ByteUse::Skip);
     }
     None
 }
@@ -133,9 +133,9 @@ fn step_after(byte: u8) -> Option<Step>
     ensures { result ≡ spec.step_after byte }
 {
     match byte {
-        b' ' => goes(Place::Spaces, Act::Skip),
-        b';' => goes(Place::BeforeName, Act::EndParam),
-        b',' => goes(Place::BeforeLink, Act::EndLink),
+        b' ' => goes(ReaderPlace::Spaces, ByteUse::Skip),
+        b';' => goes(ReaderPlace::BeforeName, ByteUse::EndParam),
+        b',' => goes(ReaderPlace::BeforeLink, ByteUse::EndLink),
         _ => None,
     }
 }
@@ -144,10 +144,10 @@ fn step_before_name(byte: u8) -> Option<Step>
     ensures { result ≡ spec.step_before_name byte }
 {
     if is_name_byte(byte) {
-        return goes(Place::Name, Act::Name);
+        return goes(ReaderPlace::Name, ByteUse::Name);
     }
     if byte == b' ' {
-        return goes(Place::BeforeName, Act::Skip);
+        return goes(ReaderPlace::BeforeName, ByteUse::Skip);
     }
     None
 }
@@ -156,10 +156,10 @@ fn step_name(byte: u8) -> Option<Step>
     ensures { result ≡ spec.step_name byte }
 {
     if is_name_byte(byte) {
-        return goes(Place::Name, Act::Name);
+        return goes(ReaderPlace::Name, ByteUse::Name);
     }
     if byte == b'=' {
-        return goes(Place::BeforeValue, Act::BeginValue);
+        return goes(ReaderPlace::BeforeValue, ByteUse::BeginValue);
     }
     step_after(byte)
 }
@@ -168,10 +168,10 @@ fn step_before_value(byte: u8) -> Option<Step>
     ensures { result ≡ spec.step_before_value byte }
 {
     if is_token_byte(byte) {
-        return goes(Place::Token, Act::Value);
+        return goes(ReaderPlace::Token, ByteUse::Value);
     }
     if byte == b'"' {
-        return goes(Place::Quoted, Act::Skip);
+        return goes(ReaderPlace::Quoted, ByteUse::Skip);
     }
     None
 }
@@ -180,7 +180,7 @@ fn step_token(byte: u8) -> Option<Step>
     ensures { result ≡ spec.step_token byte }
 {
     if is_token_byte(byte) {
-        return goes(Place::Token, Act::Value);
+        return goes(ReaderPlace::Token, ByteUse::Value);
     }
     step_after(byte)
 }
@@ -188,12 +188,12 @@ fn step_token(byte: u8) -> Option<Step>
 fn step_quoted(byte: u8) -> Option<Step>
     ensures { result ≡ spec.step_quoted byte }
 {
-    if is_plain(byte) {
-        return goes(Place::Quoted, Act::Value);
+    if is_quoted_byte(byte) {
+        return goes(ReaderPlace::Quoted, ByteUse::Value);
     }
     match byte {
-        b'"' => goes(Place::After, Act::Skip),
-        b'\\' => goes(Place::Escape, Act::Skip),
+        b'"' => goes(ReaderPlace::After, ByteUse::Skip),
+        b'\\' => goes(ReaderPlace::Escape, ByteUse::Skip),
         _ => None,
     }
 }
@@ -202,46 +202,46 @@ fn step_escape(byte: u8) -> Option<Step>
     ensures { result ≡ spec.step_escape byte }
 {
     if is_escaped(byte) {
-        return goes(Place::Quoted, Act::Value);
+        return goes(ReaderPlace::Quoted, ByteUse::Value);
     }
     None
 }
 
 /// The step that a byte makes at a place, if it may stand there.
-pub fn step_at(place: Place, byte: u8) -> Option<Step>
+pub fn step_at(place: ReaderPlace, byte: u8) -> Option<Step>
     ensures { result ≡ spec.step_at place byte }
 {
     match place {
-        Place::Start => step_start(byte),
-        Place::BeforeLink => step_before_link(byte),
-        Place::Target => step_target(byte),
-        Place::After => step_after(byte),
-        Place::Spaces => step_after(byte),
-        Place::BeforeName => step_before_name(byte),
-        Place::Name => step_name(byte),
-        Place::BeforeValue => step_before_value(byte),
-        Place::Token => step_token(byte),
-        Place::Quoted => step_quoted(byte),
-        Place::Escape => step_escape(byte),
+        ReaderPlace::Start => step_start(byte),
+        ReaderPlace::BeforeLink => step_before_link(byte),
+        ReaderPlace::Target => step_target(byte),
+        ReaderPlace::After => step_after(byte),
+        ReaderPlace::Spaces => step_after(byte),
+        ReaderPlace::BeforeName => step_before_name(byte),
+        ReaderPlace::Name => step_name(byte),
+        ReaderPlace::BeforeValue => step_before_value(byte),
+        ReaderPlace::Token => step_token(byte),
+        ReaderPlace::Quoted => step_quoted(byte),
+        ReaderPlace::Escape => step_escape(byte),
     }
 }
 
 /// A link text may end at this place. Each place is listed, since with `_` the definition of the contract doesn't
 /// compute.
-pub fn may_end(place: Place) -> bool
+pub fn may_end(place: ReaderPlace) -> bool
     ensures { result ≡ spec.may_end place }
 {
     match place {
-        Place::Start => true,
-        Place::BeforeLink => false,
-        Place::Target => false,
-        Place::After => true,
-        Place::Spaces => false,
-        Place::BeforeName => false,
-        Place::Name => true,
-        Place::BeforeValue => false,
-        Place::Token => true,
-        Place::Quoted => false,
-        Place::Escape => false,
+        ReaderPlace::Start => true,
+        ReaderPlace::BeforeLink => false,
+        ReaderPlace::Target => false,
+        ReaderPlace::After => true,
+        ReaderPlace::Spaces => false,
+        ReaderPlace::BeforeName => false,
+        ReaderPlace::Name => true,
+        ReaderPlace::BeforeValue => false,
+        ReaderPlace::Token => true,
+        ReaderPlace::Quoted => false,
+        ReaderPlace::Escape => false,
     }
 }

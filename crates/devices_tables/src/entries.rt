@@ -1,13 +1,13 @@
 //! Lists of devices: their entries, or the place of the first that is wrong.
 
 use case_notation::bytes_of;
-use file_devices::{EntriesFault, Entry, read_entries};
+use file_devices::{DeviceEntry, EntriesFault, read_entries};
 use std::alloc::{AllocError, Global};
 use std::fmt::Write;
 use wot_json::read;
 
 /// Writes a device. The text is lent, since a function pays at each early exit for what it owns.
-fn put_entry(text: &mut String, entry: &Entry) -> Result<(), AllocError> {
+fn put_entry(text: &mut String, entry: &DeviceEntry) -> Result<(), AllocError> {
     write!(
         text,
         "{} {:?} {} {:?}",

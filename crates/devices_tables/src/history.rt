@@ -2,7 +2,7 @@
 
 use crate::readings::Readings;
 use case_notation::bytes_of;
-use file_devices::{DeviceFilesMemory, Entry, Notation, SlotHandler, file_handler};
+use file_devices::{DeviceEntry, DeviceFilesMemory, Notation, SlotHandler, file_handler};
 use servient_outside::{Calls, Held, HeldFile};
 use std::alloc::{AllocError, Global};
 use std::fmt::Write;
@@ -74,7 +74,7 @@ fn kind_of(word: &str) -> Option<Kind> {
 /// The device of a line, if it is one's.
 fn device_of(alloc: Global, before: Before, kind: Kind, rest: &str) -> Result<Device, AllocError> {
     let (name, notation) = rest.split_once(' ').unwrap_or((rest, "json"));
-    let entry = Entry {
+    let entry = DeviceEntry {
         slot: 0,
         kind,
         path: Text::copy_of(alloc, name)?,

@@ -6,13 +6,13 @@ use Rattle.wot_json.specs.Reading.{tree_of}
 use Rattle.wot_json.specs.Meaning.{json_of}
 use Rattle.thing_ops.specs.declared.outcome.Outcome.{Outcome}
 use Rattle.thing_ops.specs.declared.outcome.Outcome.TheVariants as outcome
-use Rattle.thing_ops.specs.Requests.{PlainRequest}
+use Rattle.thing_ops.specs.Requests.{RequestSeen}
 use Rattle.thing_site.specs.Refusals.{Input, no_inputs, Refusal, answer_not_acceptable, format_not_taken, body_not_as_wanted, value_too_large, refused_by_schema, Holding, SomeInput, IsLong, IsRefusedBySchema, StandsBy}
 use Rattle.thing_site.specs.HandedIn.{AreFormatsTaken, AreFormatsRefused, HasNoInputs}
 use Rattle.directory_requests.specs.declared.act.DirectoryAct.{DirectoryAct}
 use Rattle.directory_requests.specs.declared.act.DirectoryAct.TheVariants as act
-use Rattle.directory_requests.specs.declared.judging.Task.{Task}
-use Rattle.directory_requests.specs.declared.judging.Task.TheVariants as task
+use Rattle.directory_requests.specs.declared.judging.DirectoryTask.{DirectoryTask}
+use Rattle.directory_requests.specs.declared.judging.DirectoryTask.TheVariants as task
 use Rattle.directory_requests.specs.Asked.{act_asked, answer_format, body_format, inputs_of, if_readable, demands_of, IsRefused}
 use Rattle.directory_requests.specs.Judged.{IsAsked, IsTask, IsJudged, IsRefusedOrMemory}
 
@@ -30,7 +30,7 @@ readable body value e = rw e refl
 nothing_in : (body : List ℕ) → body ≡ [] → no_inputs body ≡ Some []
 nothing_in body e = rw e refl
 
-hands_in : (a : DirectoryAct) (body : List ℕ) (t : Task) → IsTask a body t → inputs_of a body ≡ Some []
+hands_in : (a : DirectoryAct) (body : List ℕ) (t : DirectoryTask) → IsTask a body t → inputs_of a body ≡ Some []
 hands_in act.Lists body task.Lists e = nothing_in body e
 hands_in act.Creates body (task.Creates tree) e = readable body (json_of tree) e
 hands_in act.Shows body task.Shows e = nothing_in body e
@@ -49,7 +49,7 @@ untrue : (b : _) → b ≡ true → b ≡ false → ⊥
 untrue b e f = absurd cc
 
 -- nothing is against a request
-pub judged : (q : PlainRequest) (a : DirectoryAct) (t : Task) → IsAsked q (Ok a) → AreFormatsTaken (answer_format a) (body_format a) q → IsTask a q.body t → IsJudged q t
+pub judged : (q : RequestSeen) (a : DirectoryAct) (t : DirectoryTask) → IsAsked q (Ok a) → AreFormatsTaken (answer_format a) (body_format a) q → IsTask a q.body t → IsJudged q t
 judged q a t asked formats is =
     let given = hands_in a q.body t is in record {
       act = a;
@@ -59,7 +59,7 @@ judged q a t asked formats is =
     }
 
 -- its formats are
-pub formats_refused : (q : PlainRequest) (a : DirectoryAct) (o : Outcome) → IsAsked q (Ok a) → AreFormatsRefused (answer_format a) (body_format a) q o → IsRefusedOrMemory q o
+pub formats_refused : (q : RequestSeen) (a : DirectoryAct) (o : Outcome) → IsAsked q (Ok a) → AreFormatsRefused (answer_format a) (body_format a) q o → IsRefusedOrMemory q o
 formats_refused q a o asked (inl bad) =
     inr (inr (asked.1.0, inr (asked.1.1.0, inl (holding (λ x. StandsBy answer_not_acceptable (demands_of x) q) (act_asked q) a asked.0 bad.0, bad.1))))
 formats_refused q a o asked (inr bad) = inr (inr (
@@ -74,7 +74,7 @@ formats_refused q a o asked (inr bad) = inr (inr (
 ))
 
 -- its body is
-pub body_refused : (q : PlainRequest) (a : DirectoryAct) (o : Outcome) → IsAsked q (Ok a) → AreFormatsTaken (answer_format a) (body_format a) q → HasNoInputs (inputs_of a q.body) o
+pub body_refused : (q : RequestSeen) (a : DirectoryAct) (o : Outcome) → IsAsked q (Ok a) → AreFormatsTaken (answer_format a) (body_format a) q → HasNoInputs (inputs_of a q.body) o
     → IsRefusedOrMemory q o
 body_refused q a o asked formats (inl memory) = inl memory
 body_refused q a o asked formats (inr bad) = inr (inr (
@@ -92,7 +92,7 @@ body_refused q a o asked formats (inr bad) = inr (inr (
 ))
 
 -- no act was asked for
-pub asked_refused : (q : PlainRequest) (o : Outcome) → IsAsked q (Err o) → IsRefusedOrMemory q o
+pub asked_refused : (q : RequestSeen) (o : Outcome) → IsAsked q (Err o) → IsRefusedOrMemory q o
 asked_refused q o (inl first) = inr (inl first)
 asked_refused q o (inr (there, inl second)) = inr (inr (there, inl second))
 asked_refused q o (inr (there, inr (taken, none))) = absurd none

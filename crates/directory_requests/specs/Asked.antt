@@ -11,7 +11,7 @@ use Rattle.thing_ops.specs.declared.allow.Allow.{Allow}
 use Rattle.thing_ops.specs.declared.allow.Flags.{Flags}
 use Rattle.thing_ops.specs.declared.outcome.Outcome.{Outcome}
 use Rattle.thing_ops.specs.declared.outcome.Outcome.TheVariants as outcome
-use Rattle.thing_ops.specs.Requests.{PlainRequest}
+use Rattle.thing_ops.specs.Requests.{RequestSeen}
 use Rattle.thing_ops.specs.Routes.{route_of}
 use Rattle.thing_ops.specs.Verbs.{verbs_in, verbs_of}
 use Rattle.thing_site.specs.declared.formats.AnswerFormat.{AnswerFormat}
@@ -53,7 +53,7 @@ no_flags = record { read_only = false; write_only = false }
 abbrev pub act_at : RouteKind → Verb → Option DirectoryAct
 act_at form v = if is_listed v (verbs_of form no_flags) then Some (act_of form v) else None
 
-abbrev pub act_asked : PlainRequest → Option DirectoryAct
+abbrev pub act_asked : RequestSeen → Option DirectoryAct
 act_asked q = act_at (route_of q.path) q.verb
 
 -- ---- what an act asks of a request
@@ -93,7 +93,7 @@ abbrev pub refusals : List Refusal
 refusals = nothing_there ∷ verb_not_taken ∷ refusals_by_request
 
 -- each of them holds
-abbrev pub Stands : Refusal → PlainRequest → Type 0
+abbrev pub Stands : Refusal → RequestSeen → Type 0
 -- the path isn't one of the directory's
 Stands nothing_there q = is_of_directory (route_of q.path) ≡ false
 -- the verb isn't taken there
@@ -101,14 +101,14 @@ Stands verb_not_taken q = act_asked q ≡ None
 Stands r q = Holding (λ a. StandsBy r (demands_of a) q) (act_asked q)
 
 -- the answer to each of them
-abbrev pub IsAnsweredWith : Refusal → PlainRequest → Outcome → Type 0
+abbrev pub IsAnsweredWith : Refusal → RequestSeen → Outcome → Type 0
 IsAnsweredWith nothing_there q o = o ≡ outcome.NotFound
 IsAnsweredWith verb_not_taken q o = (allow : Allow) × (verbs_in allow ≡ verbs_of (route_of q.path) no_flags) × (o ≡ outcome.NotAllowed allow)
 IsAnsweredWith r q o = IsAnswer r o
 
 -- a request is refused with this outcome: the first refusal that holds decides
-abbrev pub IsRefused : PlainRequest → Outcome → Type 0
+abbrev pub IsRefused : RequestSeen → Outcome → Type 0
 IsRefused q o = IsFirst (λ r. Stands r q) (λ r. IsAnsweredWith r q) refusals o
 
-abbrev pub IsUnrefused : PlainRequest → Type 0
+abbrev pub IsUnrefused : RequestSeen → Type 0
 IsUnrefused q = IsNone (λ r. Stands r q) refusals

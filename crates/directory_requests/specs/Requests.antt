@@ -8,7 +8,7 @@ use Rattle.wot_json.specs.Reading.{tree_of}
 use Rattle.thing_ops.specs.declared.request.Accept.{Accept}
 use Rattle.thing_ops.specs.declared.outcome.Outcome.{Outcome}
 use Rattle.thing_ops.specs.declared.outcome.Outcome.TheVariants as outcome
-use Rattle.thing_ops.specs.Requests.{PlainRequest}
+use Rattle.thing_ops.specs.Requests.{RequestSeen}
 use Rattle.wot_directory.specs.Contents.{Contents}
 use Rattle.wot_directory.specs.Directory.{empty_directory, Creates, Puts, Patches, Removes, HasCreateFault, HasPutFault, HasPatchFault, HasRemoveFault, list_text}
 use Rattle.wot_directory.specs.declared.fault.DirFault.{DirFault}
@@ -84,7 +84,7 @@ RemovesEntry id o d t =
     ⊎ IsNotDone (λ e. HasRemoveFault e id d) o d t
 
 -- The effect of each act: the table of acts.
-abbrev pub Performs : DirectoryAct → PlainRequest → Outcome → Contents → Contents → Type 0
+abbrev pub Performs : DirectoryAct → RequestSeen → Outcome → Contents → Contents → Type 0
 Performs act.Lists q o d t = (o ≡ listed_by (window_of q.query) d.entries) × (t ≡ d)
 Performs act.Creates q o d t = WithBody q.body (λ description. CreatesEntry description o d t)
 Performs act.Shows q o d t = (o ≡ shown (member_named (id_in q.path) d.entries) q.accept) × (t ≡ d)
@@ -119,7 +119,7 @@ RemovesEntryAt id o r s =
     ⊎ IsNotDoneAt (λ e. IsRemoveFault e id r) o r s
 
 -- The effect of each act: the same table, where entries are given out with their times.
-abbrev pub PerformsAt : DirectoryAct → PlainRequest → ℕ → Outcome → Registered → Registered → Type 0
+abbrev pub PerformsAt : DirectoryAct → RequestSeen → ℕ → Outcome → Registered → Registered → Type 0
 PerformsAt act.Lists q now o r s = (o ≡ listed_by (window_of q.query) (shown_entries r)) × (s ≡ r)
 PerformsAt act.Creates q now o r s = WithBody q.body (λ description. CreatesEntryAt description now o r s)
 PerformsAt act.Shows q now o r s = (o ≡ shown (shown_under (id_in q.path) r) q.accept) × (s ≡ r)
@@ -140,12 +140,12 @@ standing_at now (kept.Untimed d) = kept.Untimed d
 standing_at now (kept.Timed r) = kept.Timed (standing now r)
 
 -- an act is done
-abbrev pub PerformsOn : DirectoryAct → PlainRequest → ℕ → Outcome → Entries → Entries → Type 0
+abbrev pub PerformsOn : DirectoryAct → RequestSeen → ℕ → Outcome → Entries → Entries → Type 0
 PerformsOn a q now o (kept.Untimed d) t = (e : Contents) × Performs a q o d e × (t ≡ kept.Untimed e)
 PerformsOn a q now o (kept.Timed r) t = (s : Registered) × PerformsAt a q now o r s × (t ≡ kept.Timed s)
 
 -- A request to the directory at a moment, what stands then, and its outcome.
-pub data ActsOnStanding (q : PlainRequest) (now : ℕ) (o : Outcome) (d t : Entries) : Type 0 where
+pub data ActsOnStanding (q : RequestSeen) (now : ℕ) (o : Outcome) (d t : Entries) : Type 0 where
   -- the first refusal that holds decides, and nothing changes
   refuses : IsRefused q o → t ≡ d → ActsOnStanding q now o d t
   -- it may be out of memory, and nothing changes
@@ -154,5 +154,5 @@ pub data ActsOnStanding (q : PlainRequest) (now : ℕ) (o : Outcome) (d t : Entr
   performs : (a : DirectoryAct) → act_asked q ≡ Some a → IsUnrefused q → PerformsOn a q now o d t → ActsOnStanding q now o d t
 
 -- The same where what is over isn't taken away yet: it goes first.
-abbrev pub DirectoryActs : PlainRequest → ℕ → Outcome → Entries → Entries → Type 0
+abbrev pub DirectoryActs : RequestSeen → ℕ → Outcome → Entries → Entries → Type 0
 DirectoryActs q now o d t = ActsOnStanding q now o (standing_at now d) t

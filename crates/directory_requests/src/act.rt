@@ -1,7 +1,7 @@
 //! The acts of the directory, by path and verb, and the formats that each takes.
 
 ghost use Rattle.std.specs.Prelude.{◌≡◌, Some, None, MatchResult, slice_get};
-ghost use Rattle.thing_ops.specs.Requests.{plain_request};
+ghost use Rattle.thing_ops.specs.Requests.{request_seen};
 ghost use Rattle.thing_ops.specs.Routes.{route_of};
 ghost use Rattle.thing_ops.specs.Verbs.{verbs_in, verbs_of};
 ghost use Rattle.directory_requests.specs.Asked as spec;

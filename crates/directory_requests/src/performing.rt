@@ -3,13 +3,13 @@
 ghost use Rattle.std.specs.Prelude.{◌≡◌};
 ghost use Rattle.wot_json.specs.Meaning.{json_of};
 ghost use Rattle.wot_json.specs.Lookup.{member_named};
-ghost use Rattle.thing_ops.specs.Requests.{plain_request};
+ghost use Rattle.thing_ops.specs.Requests.{request_seen};
 ghost use Rattle.directory_requests.specs.Window.{window_of as window_by};
 ghost use Rattle.directory_requests.specs.Requests as spec;
 ghost use Rattle.directory_requests.specs.Judged.{IsJudged, IsOrMemory, DoesTask};
 
 use crate::act::entry_id;
-use crate::judging::Task;
+use crate::judging::DirectoryTask;
 use crate::window::window_of;
 use std::alloc::Global;
 use thing_ops::{Accept, Outcome, Request};
@@ -20,19 +20,19 @@ use wot_json::{Tree, text_of};
 pub(crate) fn perform_task(
     alloc: Global,
     directory: &mut Directory,
-    task: Task,
+    task: DirectoryTask,
     request: &Request<'_>,
 ) -> Outcome
-    requires { IsJudged (plain_request request.now) task }
-    ensures { DoesTask task (plain_request request.now) result directory.old directory.new }
+    requires { IsJudged (request_seen request.now) task }
+    ensures { DoesTask task (request_seen request.now) result directory.old directory.new }
 {
     match task {
-        Task::Lists => list(directory, request.query),
-        Task::Creates(description) => create(directory, description),
-        Task::Shows => show(alloc, directory, entry_id(&request.path), request.accept),
-        Task::Puts(description) => put(directory, entry_id(&request.path), description),
-        Task::Patches(merge) => patch(directory, entry_id(&request.path), &merge),
-        Task::Removes => remove(directory, entry_id(&request.path)),
+        DirectoryTask::Lists => list(directory, request.query),
+        DirectoryTask::Creates(description) => create(directory, description),
+        DirectoryTask::Shows => show(alloc, directory, entry_id(&request.path), request.accept),
+        DirectoryTask::Puts(description) => put(directory, entry_id(&request.path), description),
+        DirectoryTask::Patches(merge) => patch(directory, entry_id(&request.path), &merge),
+        DirectoryTask::Removes => remove(directory, entry_id(&request.path)),
     }
 }
 

@@ -3,7 +3,7 @@
 
 ghost use Rattle.std.specs.Prelude.{◌≡◌, ◌≤◌, option_map};
 ghost use Rattle.wot_json.specs.Meaning.{json_of};
-ghost use Rattle.thing_ops.specs.Requests.{plain_request};
+ghost use Rattle.thing_ops.specs.Requests.{request_seen};
 ghost use Rattle.wot_registry.specs.Times.{last_moment};
 ghost use Rattle.wot_registry.specs.Registry.{standing, shown_under, shown_entries};
 ghost use Rattle.directory_requests.specs.Window.{window_of as window_by};
@@ -11,7 +11,7 @@ ghost use Rattle.directory_requests.specs.Requests as spec;
 ghost use Rattle.directory_requests.specs.Judged.{IsJudged, IsOrMemory, DoesTaskAt};
 
 use crate::act::entry_id;
-use crate::judging::Task;
+use crate::judging::DirectoryTask;
 use crate::performing::outcome_of as outcome_of_fault;
 use crate::window::window_of;
 use std::alloc::Global;
@@ -23,27 +23,32 @@ use wot_registry::{RegFault, Registry};
 pub(crate) fn perform_task_at(
     alloc: Global,
     registry: &mut Registry,
-    task: Task,
+    task: DirectoryTask,
     request: &Request<'_>,
     now: u64,
 ) -> Outcome
-    requires judged { IsJudged (plain_request request.now) task }
+    requires judged { IsJudged (request_seen request.now) task }
     requires bound { now ≤ last_moment }
-    ensures { DoesTaskAt task (plain_request request.now) now result (standing now registry.old) registry.new }
+    ensures { DoesTaskAt task (request_seen request.now) now result (standing now registry.old) registry.new }
 {
     match task {
-        Task::Lists => list(registry, request.query, now),
-        Task::Creates(description) => create(registry, description, now),
-        Task::Shows => show(
+        DirectoryTask::Lists => list(registry, request.query, now),
+        DirectoryTask::Creates(description) => create(registry, description, now),
+        DirectoryTask::Shows => show(
             alloc,
             registry,
             entry_id(&request.path),
             request.accept,
             now,
         ),
-        Task::Puts(description) => put(registry, entry_id(&request.path), description, now),
-        Task::Patches(merge) => patch(registry, entry_id(&request.path), &merge, now),
-        Task::Removes => remove(registry, entry_id(&request.path), now),
+        DirectoryTask::Puts(description) => put(
+            registry,
+            entry_id(&request.path),
+            description,
+            now,
+        ),
+        DirectoryTask::Patches(merge) => patch(registry, entry_id(&request.path), &merge, now),
+        DirectoryTask::Removes => remove(registry, entry_id(&request.path), now),
     }
 }
 

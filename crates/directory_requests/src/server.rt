@@ -1,13 +1,13 @@
 //! A directory that does what requests ask.
 
 ghost use Rattle.std.specs.Prelude.{◌≡◌, ◌≤◌, IfSome};
-ghost use Rattle.thing_ops.specs.Requests.{plain_request};
+ghost use Rattle.thing_ops.specs.Requests.{request_seen};
 ghost use Rattle.wot_registry.specs.Dates.{last_millisecond};
 ghost use Rattle.wot_registry.specs.Times.{last_moment};
 ghost use Rattle.directory_requests.specs.Requests.{no_entries, standing_at, ActsOnStanding};
 ghost use Rattle.directory_requests.specs.Judged.{IsJudged};
 
-use crate::judging::{Task, judge};
+use crate::judging::{DirectoryTask, judge};
 use crate::performing::perform_task;
 use crate::registering::perform_task_at;
 use std::alloc::Global;
@@ -62,7 +62,7 @@ impl DirectoryServer {
     /// outcome.
     pub fn perform(&mut self, request: &Request<'_>, now: u64) -> Outcome
         requires { now ≤ last_moment }
-        ensures { ActsOnStanding (plain_request request.now) now result (standing_at now self.old) self.new }
+        ensures { ActsOnStanding (request_seen request.now) now result (standing_at now self.old) self.new }
     {
         match judge(self.alloc, request) {
             Ok(task) => self.entries.perform(self.alloc, task, request, now),
@@ -97,10 +97,16 @@ impl Entries {
     }
 
     /// Performs the task of a request at the moment `now`, once the entries that are over then were taken away.
-    fn perform(&mut self, alloc: Global, task: Task, request: &Request<'_>, now: u64) -> Outcome
-        requires judged { IsJudged (plain_request request.now) task }
+    fn perform(
+        &mut self,
+        alloc: Global,
+        task: DirectoryTask,
+        request: &Request<'_>,
+        now: u64,
+    ) -> Outcome
+        requires judged { IsJudged (request_seen request.now) task }
         requires bound { now ≤ last_moment }
-        ensures { ActsOnStanding (plain_request request.now) now result (standing_at now self.old) self.new }
+        ensures { ActsOnStanding (request_seen request.now) now result (standing_at now self.old) self.new }
     {
         match self {
             Entries::Untimed(directory) => perform_task(alloc, directory, task, request),

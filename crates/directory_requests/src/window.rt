@@ -107,13 +107,13 @@ fn number_in(text: &[u8]) -> Option<u32>
 {
     // A match and not `ok()?`, since the proof cites that the bytes aren't UTF-8.
     match str::from_utf8(text) {
-        Ok(text) => number_of(text),
+        Ok(text) => number_in_text(text),
         Err(_) => None,
     }
 }
 
 /// The number that a text of one to nine digits is.
-fn number_of(text: &str) -> Option<u32>
+fn number_in_text(text: &str) -> Option<u32>
     ensures { result ≡ spec.number_in text.now }
 {
     if !is_number(text.as_bytes()) {

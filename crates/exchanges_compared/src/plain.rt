@@ -75,7 +75,7 @@ impl PlainExchanges {
         ensures awaited { (slot : ℕ) → result ≡ Met.Fresh slot → IsAwaited slot self.new }
         ensures kept { (slot : ℕ) → result ≡ Met.Repeat (Some slot) → HasReply slot self.new }
     {
-        self.go_on(now);
+        self.advance_to(now);
         self.judge(from, id, RequestType::of(kind))
     }
 
@@ -101,7 +101,7 @@ impl PlainExchanges {
     }
 
     /// Moves on to the moment `now`, and gives up the exchanges that don't live then.
-    fn go_on(&mut self, now: u64)
+    fn advance_to(&mut self, now: u64)
         requires { self.old.moment ≤ now }
         ensures { self.new ≡ at_moment now self.old }
     {

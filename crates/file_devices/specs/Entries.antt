@@ -14,7 +14,7 @@ use Rattle.wot_terms.specs.declared.kind.Kind.{Kind}
 use Rattle.wot_terms.specs.declared.kind.Kind.TheVariants as kind
 use Rattle.file_devices.specs.declared.notation.Notation.{Notation}
 use Rattle.file_devices.specs.declared.notation.Notation.TheVariants as notation
-use Rattle.file_devices.specs.declared.entries.Entry.{Entry}
+use Rattle.file_devices.specs.declared.entries.DeviceEntry.{DeviceEntry}
 use Rattle.file_devices.specs.declared.entries.EntriesFault.{EntriesFault}
 use Rattle.file_devices.specs.declared.entries.EntriesFault.TheVariants as fault
 
@@ -44,7 +44,7 @@ slot_in (integer (pos n)) = if nat_le n 63 then Some n else None
 slot_in v = None
 
 -- that of one which no earlier entry has
-abbrev pub free_slot : List Entry → Option ℕ → Option ℕ
+abbrev pub free_slot : List DeviceEntry → Option ℕ → Option ℕ
 free_slot before None = None
 free_slot before (Some n) = if list_any (λ e. e.slot == n) before then None else Some n
 
@@ -69,7 +69,7 @@ member_of kind.Event = codes "event"
 
 -- The device of an entry of this kind, or the pointer to the first of its members that is wrong, in the order of their
 -- names: action, as, event, property, slot.
-abbrev pub entry_by : Kind → Option (List ℕ) → Option Notation → Option ℕ → Result Entry (List ℕ)
+abbrev pub entry_by : Kind → Option (List ℕ) → Option Notation → Option ℕ → Result DeviceEntry (List ℕ)
 entry_by kind.Action None way slot = Err (codes "/action")
 entry_by kind.Action (Some path) None slot = Err (codes "/as")
 entry_by kind.Event path None slot = Err (codes "/as")
@@ -80,7 +80,7 @@ entry_by k (Some path) (Some way) None = Err (codes "/slot")
 entry_by k (Some path) (Some way) (Some slot) = Ok (record { slot = slot; kind = k; path = path; notation = way })
 
 -- The device of an entry after those before it. One that doesn't name just one file is wrong itself.
-abbrev pub entry_of : List Entry → Json → Result Entry (List ℕ)
+abbrev pub entry_of : List DeviceEntry → Json → Result DeviceEntry (List ℕ)
 entry_of before v =
     let member = λ (name : List ℕ). member_named name (members_under v) in
     option_map_or
@@ -91,21 +91,21 @@ entry_of before v =
 -- ---- the list
 
 -- Reading the entries from this index on, after these: what they say, in order, or the first that is wrong.
-pub data ReadsFrom : ℕ → List Entry → List Json → Result (List Entry) EntriesFault → Type 0 where
-  ends : (index : ℕ) (before : List Entry) → ReadsFrom index before [] (Ok before)
-  wrong : (index : ℕ) (before : List Entry) (v : Json) (vs : List Json) (pointer : List ℕ) → entry_of before v ≡ Err pointer
+pub data ReadsFrom : ℕ → List DeviceEntry → List Json → Result (List DeviceEntry) EntriesFault → Type 0 where
+  ends : (index : ℕ) (before : List DeviceEntry) → ReadsFrom index before [] (Ok before)
+  wrong : (index : ℕ) (before : List DeviceEntry) (v : Json) (vs : List Json) (pointer : List ℕ) → entry_of before v ≡ Err pointer
       → ReadsFrom index before (v ∷ vs) (Err (fault.At (element_step_text index ++ pointer)))
-  says : (index : ℕ) (before : List Entry) (v : Json) (vs : List Json) (e : Entry) (r : Result (List Entry) EntriesFault) → entry_of before v ≡ Ok e
+  says : (index : ℕ) (before : List DeviceEntry) (v : Json) (vs : List Json) (e : DeviceEntry) (r : Result (List DeviceEntry) EntriesFault) → entry_of before v ≡ Ok e
       → ReadsFrom (index + 1) (before ++ e ∷ []) vs r → ReadsFrom index before (v ∷ vs) r
-  entries_memory : (index : ℕ) (before : List Entry) (vs : List Json) → ReadsFrom index before vs (Err fault.NoMemory)
+  entries_memory : (index : ℕ) (before : List DeviceEntry) (vs : List Json) → ReadsFrom index before vs (Err fault.NoMemory)
 
 -- Reading a list of devices. A tree that is no list is wrong itself.
-pub data ReadsEntries (v : Json) (r : Result (List Entry) EntriesFault) : Type 0 where
+pub data ReadsEntries (v : Json) (r : Result (List DeviceEntry) EntriesFault) : Type 0 where
   is_list : (es : _) → v ≡ array es → ReadsFrom 0 [] (element_list es) r → ReadsEntries v r
   is_none : ((es : _) → v ≡ array es → ⊥) → r ≡ Err (fault.At []) → ReadsEntries v r
   list_memory : r ≡ Err fault.NoMemory → ReadsEntries v r
 
 -- an entry, or a pointer, as the code gives it
-abbrev pub told : {A : Type 0} → Result Entry A → (A → List ℕ) → Result Entry (List ℕ)
+abbrev pub told : {A : Type 0} → Result DeviceEntry A → (A → List ℕ) → Result DeviceEntry (List ℕ)
 told (Ok e) text = Ok e
 told (Err a) text = Err (text a)

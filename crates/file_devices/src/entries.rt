@@ -15,7 +15,7 @@ use wot_json::{Text, Tree, through_element};
 /// A device: the slot of its handler, the kind of its affordance, the path of its file, and the notation of the file's
 /// content.
 #[derive(Debug, Drop)]
-pub struct Entry {
+pub struct DeviceEntry {
     /// From 0 to 63.
     pub slot: u32,
     pub kind: Kind,
@@ -46,31 +46,31 @@ impl From<AllocError> for EntriesFault {
 
 /// Devices, in the order of their list. Contracts see the list of them.
 #[derive(Debug, Drop)]
-pub struct Entries {
-    list: Vec<Entry>,
+pub struct DeviceEntries {
+    list: Vec<DeviceEntry>,
 }
 
-impl Model for Entries {
+impl Model for DeviceEntries {
     ghost use Rattle.std.specs.Prelude.{List};
-    ghost use Rattle.file_devices.specs.declared.entries.Entry.{Entry};
+    ghost use Rattle.file_devices.specs.declared.entries.DeviceEntry.{DeviceEntry};
 
-    ghost Value = { List Entry };
+    ghost Value = { List DeviceEntry };
 
     ghost view = { λ e. e.list.items };
 }
 
-impl Entries {
+impl DeviceEntries {
     /// No devices.
     pub fn new(alloc: Global) -> Self
         ensures { result ≡ [] }
     {
-        Entries {
+        DeviceEntries {
             list: Vec::new(alloc),
         }
     }
 
     /// Puts a device after the others.
-    fn push(&mut self, entry: Entry) -> Result<(), NoMemory>
+    fn push(&mut self, entry: DeviceEntry) -> Result<(), NoMemory>
         ensures ok { OnOk result (self.new ≡ self.old ++ entry ∷ []) }
     {
         self.list.push(entry)?;
@@ -78,14 +78,14 @@ impl Entries {
     }
 
     /// The devices, in the order of their list.
-    pub fn as_slice(&self) -> &[Entry]
+    pub fn as_slice(&self) -> &[DeviceEntry]
         ensures { result.now ≡ self.now }
     {
         self.list.as_slice()
     }
 
     /// The device whose handler has this slot.
-    pub fn at(&self, slot: u32) -> Option<&Entry>
+    pub fn at(&self, slot: u32) -> Option<&DeviceEntry>
         ensures { option_map (λ e. e.now) result ≡ find (λ e. e.slot == slot) self.now }
     {
         self.list.iter().find(|entry| entry.slot == slot)
@@ -93,7 +93,7 @@ impl Entries {
 }
 
 /// Reads a list of devices.
-pub fn read_entries(alloc: Global, tree: &Tree) -> Result<Entries, EntriesFault>
+pub fn read_entries(alloc: Global, tree: &Tree) -> Result<DeviceEntries, EntriesFault>
     ensures { spec.ReadsEntries (json_of tree.now) result }
 {
     match tree {
@@ -104,10 +104,10 @@ pub fn read_entries(alloc: Global, tree: &Tree) -> Result<Entries, EntriesFault>
 
 /// Reads the entries of a list.
 #[tactic(auto, using(crate::proofs::ListRead::runs_out))]
-fn read_list(alloc: Global, items: &[Tree]) -> Result<Entries, EntriesFault>
+fn read_list(alloc: Global, items: &[Tree]) -> Result<DeviceEntries, EntriesFault>
     ensures { spec.ReadsFrom 0 [] (json_items items.now) result }
 {
-    let mut entries = Entries::new(alloc);
+    let mut entries = DeviceEntries::new(alloc);
     for (index, item) in items.iter().enumerate() {
         match entry_in(alloc, entries.as_slice(), item)? {
             Ok(entry) => entries.push(entry)?,
@@ -122,9 +122,9 @@ fn read_list(alloc: Global, items: &[Tree]) -> Result<Entries, EntriesFault>
 /// The device of an entry after those before it, or the pointer from it to the member that is wrong.
 fn entry_in(
     alloc: Global,
-    before: &[Entry],
+    before: &[DeviceEntry],
     item: &Tree,
-) -> Result<Result<Entry, &'static str>, NoMemory>
+) -> Result<Result<DeviceEntry, &'static str>, NoMemory>
     ensures { IfOk result (λ entry. spec.told entry (λ p. p.now) ≡ spec.entry_of before.now (json_of item.now)) }
 {
     let Some(kind) = kind_named(item) else {
@@ -143,7 +143,7 @@ fn entry_in(
     let Some(slot) = free_slot(before, slot_in(item.member("slot"))) else {
         return Ok(Err("/slot"));
     };
-    Ok(Ok(Entry {
+    Ok(Ok(DeviceEntry {
         slot,
         kind,
         path: Text::copy_of(alloc, path)?,
@@ -228,7 +228,7 @@ fn slot_in(value: Option<&Tree>) -> Option<u32>
 }
 
 /// The number of a slot that none of these entries has.
-fn free_slot(before: &[Entry], slot: Option<u32>) -> Option<u32>
+fn free_slot(before: &[DeviceEntry], slot: Option<u32>) -> Option<u32>
     ensures { result ≡ spec.free_slot before.now slot }
 {
     let slot = slot?;
@@ -240,7 +240,7 @@ fn free_slot(before: &[Entry], slot: Option<u32>) -> Option<u32>
 }
 
 /// One of these entries has this slot.
-fn has_slot(entries: &[Entry], slot: u32) -> bool
+fn has_slot(entries: &[DeviceEntry], slot: u32) -> bool
     ensures { result ≡ list_any (λ e. e.slot == slot) entries.now }
 {
     entries.iter().any(|entry| entry.slot == slot)

@@ -29,7 +29,7 @@ mod slot_handler;
 mod values;
 
 pub use action::FileAction;
-pub use entries::{Entries, EntriesFault, Entry, read_entries};
+pub use entries::{DeviceEntries, DeviceEntry, EntriesFault, read_entries};
 pub use event::FileEvent;
 pub use fault::FileFault;
 pub use files::{DeviceFiles, Wrote};

@@ -6,7 +6,7 @@ ghost use Rattle.thing_handler.specs.Handler.{fresh_handler};
 ghost use Rattle.thing_handler.specs.Shipped.{device_kind, shipped_device};
 ghost use Rattle.file_devices.specs.Slots.{slot_files, slot_seen};
 
-use crate::{DeviceFiles, Entry, FileAction, FileEvent, FileProperty};
+use crate::{DeviceEntry, DeviceFiles, FileAction, FileEvent, FileProperty};
 use servient_base::NoMemory;
 use std::alloc::Global;
 use thing_handler::{Answer, CallKind, Handler, Kind, Shipped, Turn, shipped_in};
@@ -25,7 +25,7 @@ pub enum SlotHandler<D: DeviceFiles> {
 pub fn file_handler<D: DeviceFiles>(
     alloc: Global,
     files: D,
-    entry: &Entry,
+    entry: &DeviceEntry,
 ) -> Result<SlotHandler<D>, NoMemory>
     ensures { IfOk result (λ handler. slot_seen handler ≡ fresh_handler entry.now.kind) }
 {

@@ -1,12 +1,16 @@
 //! Reading the list of devices.
 
-use file_devices::{Entries, EntriesFault, read_entries};
+use file_devices::{DeviceEntries, EntriesFault, read_entries};
 use servient_cli::{Ended, Ending, LONGEST_JSON, end_with, read_file, read_tree};
 use servient_outside::Files;
 use std::alloc::Global;
 
 /// Reads the list of devices of this name. Where it is none, the ending has the line that says so, and status 3 or 4.
-pub fn read_devices<F: Files>(alloc: Global, name: &str, files: &mut F) -> Result<Entries, Ended> {
+pub fn read_devices<F: Files>(
+    alloc: Global,
+    name: &str,
+    files: &mut F,
+) -> Result<DeviceEntries, Ended> {
     let content = read_file(alloc, name, LONGEST_JSON, files)?;
     let tree = read_tree(alloc, name, content.as_slice())?;
     match read_entries(alloc, &tree) {

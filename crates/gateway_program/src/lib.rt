@@ -11,7 +11,7 @@ mod devices;
 
 use device_files::DeviceFilesReal;
 use devices::read_devices;
-use file_devices::{Entries, SlotHandler, file_handler, shipped_handler};
+use file_devices::{DeviceEntries, SlotHandler, file_handler, shipped_handler};
 use servient_base::NoMemory;
 use servient_cli::{report, servient_main};
 use servient_edge::{FilesReal, MioNet, OutReal};
@@ -34,7 +34,7 @@ pub fn run(rt: &HostRuntime) -> ExitCode {
 fn run_words(rt: &HostRuntime) -> Result<u8, NoMemory> {
     let words = process_words(rt)?;
     match after_first(words.as_slice()) {
-        [] => run_command(rt, &Entries::new(rt.alloc()), &[]),
+        [] => run_command(rt, &DeviceEntries::new(rt.alloc()), &[]),
         [devices, command @ ..] => run_devices(rt, devices, command),
     }
 }
@@ -52,7 +52,7 @@ fn run_devices(rt: &HostRuntime, name: &Text, words: &[Text]) -> Result<u8, NoMe
 }
 
 /// Does the command of words of the servient, with these devices.
-fn run_command(rt: &HostRuntime, entries: &Entries, words: &[Text]) -> Result<u8, NoMemory> {
+fn run_command(rt: &HostRuntime, entries: &DeviceEntries, words: &[Text]) -> Result<u8, NoMemory> {
     let alloc = rt.alloc();
     let mut list: Vec<Box<dyn Handler>> = Vec::new(alloc);
     for slot in 0..SHIPPED_SLOTS {
@@ -70,7 +70,7 @@ fn run_command(rt: &HostRuntime, entries: &Entries, words: &[Text]) -> Result<u8
 /// The handler of a slot: that of its device, or the one that the product ships.
 fn handler_at(
     rt: &HostRuntime,
-    entries: &Entries,
+    entries: &DeviceEntries,
     slot: usize,
 ) -> Result<SlotHandler<DeviceFilesReal<HostRuntime>>, NoMemory>
     requires { slot < 64 }

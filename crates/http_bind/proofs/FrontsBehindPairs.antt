@@ -1,7 +1,7 @@
 -- The front of a stream, and that of what is left of it without the CR LF pairs in front.
 use Rattle.std.proofs.Common.{◌≡◌, ℕ, ◌+◌, ◌-◌, ◌&&◌, Bool, true, false, List, length, drop, refl, sym, ap, subst, ◌∙◌, arith, cond}
 use Rattle.std.specs.Prelude.{Some, None, Result, Ok, Err, not, nat_le}
-use Rattle.thing_ops.specs.Requests.{PlainRequest}
+use Rattle.thing_ops.specs.Requests.{RequestSeen}
 use Rattle.httparse.specs.Grammar.{RequestHead}
 use Rattle.http_wire.specs.Heads.{skipped}
 use Rattle.http_wire.specs.Judging.{FramedHead, expects}
@@ -63,16 +63,16 @@ closes_later d (short expect) = refl
 closes_later d (message head body used expect) = refl
 closes_later d (fault status expect) = refl
 
-isnt_asked : (t : Bool) (q : PlainRequest) → cond t (Some wants_continue) None ≡ Some (asks q) → ⊥
+isnt_asked : (t : Bool) (q : RequestSeen) → cond t (Some wants_continue) None ≡ Some (asks q) → ⊥
 isnt_asked true q is = cc
 isnt_asked false q is = cc
 
-isnt_asked_of_fault : (t : Bool) (status : ℕ) (q : PlainRequest) → cond t (Some wants_continue) (Some (is_faulty status)) ≡ Some (asks q) → ⊥
+isnt_asked_of_fault : (t : Bool) (status : ℕ) (q : RequestSeen) → cond t (Some wants_continue) (Some (is_faulty status)) ≡ Some (asks q) → ⊥
 isnt_asked_of_fault true status q is = cc
 isnt_asked_of_fault false status q is = cc
 
 -- and a message takes those bytes as well
-pub used_later : (d : ℕ) (continued : Bool) (f : Front) (q : PlainRequest) → to_take continued f ≡ Some (asks q) → bytes_used (later d f) ≡ d + bytes_used f
+pub used_later : (d : ℕ) (continued : Bool) (f : Front) (q : RequestSeen) → to_take continued f ≡ Some (asks q) → bytes_used (later d f) ≡ d + bytes_used f
 unfolding later
 used_later d continued (short expect) q is = absurd (isnt_asked (expect && not continued) q is)
 used_later d continued (message head body used expect) q is = refl

@@ -1,13 +1,13 @@
 -- The answer of `next`, by what was found at the front of a connection.
 use Rattle.std.proofs.Common.{◌≡◌, ◌≢◌, ℕ, ◌-◌, ◌<◌, ◌≤◌, ◌&&◌, Bool, true, false, List, [], ◌∷◌, length, refl, sym, ap, subst, ◌∙◌, arith, cond}
 use Rattle.std.specs.Prelude.{Option, Some, None, is_some, not, IsSome}
-use Rattle.thing_ops.specs.Requests.{PlainRequest}
+use Rattle.thing_ops.specs.Requests.{RequestSeen}
 use Rattle.http_wire.specs.Heads.{skipped}
 use Rattle.http_wire.specs.Stream.{Front, short, message, fault, IsFront}
 use Rattle.http_wire.specs.Reading.{asked}
-use Rattle.http_bind.specs.declared.looking.Found.{Found}
-use Rattle.http_bind.specs.declared.looking.Found.TheVariants as seen
-use Rattle.http_bind.specs.declared.looking.Step.{Step}
+use Rattle.http_bind.specs.declared.looking.HeldFront.{HeldFront}
+use Rattle.http_bind.specs.declared.looking.HeldFront.TheVariants as seen
+use Rattle.http_bind.specs.declared.looking.MessageStep.{MessageStep}
 use Rattle.http_bind.specs.declared.owed.Owed.{Owed}
 use Rattle.http_bind.specs.declared.waits.Wait.{Wait}
 use Rattle.http_wire.specs.declared.request.RequestParts.{RequestParts}
@@ -104,7 +104,7 @@ open_fault c h f status s (Some x) at holds free front is =
     let unowed : x.owed ≡ None = sym holds.owed ∙ free in
     (Some x, holds_less h x holds unowed, (x, Some x, at, lets_fault h x f status holds unowed front is, refl))
 
-open_request : (c : ℕ) (h : Held) (f : Front) (q : PlainRequest) (step : Step) (parts : Option RequestParts) (s : Streams) (y : Option Connection) → connection_at c s ≡ y →
+open_request : (c : ℕ) (h : Held) (f : Front) (q : RequestSeen) (step : MessageStep) (parts : Option RequestParts) (s : Streams) (y : Option Connection) → connection_at c s ≡ y →
     HoldsIfOpen (Some h) y → h.owed ≡ None → IsFront (skipped h.rest) f → to_take h.continued f ≡ Some (asks q) → IsStep f q step → step.used ≤ length (skipped h.rest) →
     (x : Option Connection) × HoldsIfOpen (Some (after_finding (seen.Message step parts) (without_pairs h))) x × Takes c (asks q) s (with_connection c x (without_wait c s))
 open_request c h f q step parts s None at holds free front is by within = absurd holds
@@ -147,22 +147,22 @@ pub record Frees (c : ℕ) (b d : Slots) (h x : Held) : Type 0 where
   pub waits_not : other_waits c b.waits ≡ b.waits
 
 -- a request was taken
-asks_for : (c : ℕ) (b d : Slots) (h : Held) (f : Front) (q : PlainRequest) (step : Step) (parts : Option RequestParts) → Frees c b d h (after_finding (seen.Message step parts) (without_pairs h)) →
+asks_for : (c : ℕ) (b d : Slots) (h : Held) (f : Front) (q : RequestSeen) (step : MessageStep) (parts : Option RequestParts) → Frees c b d h (after_finding (seen.Message step parts) (without_pairs h)) →
     IsFront (skipped h.rest) f → to_take h.continued f ≡ Some (asks q) → IsStep f q step → step.used ≤ length (skipped h.rest) → AsksFor c q b d
 asks_for c b d h f q step parts p front is by within = (
   take_leads c b d (Some h) _ (Takes c (asks q)) p.puts p.waits_not (λ s holds. open_request c h f q step parts s (connection_at c s) refl holds p.unowed front is by within),
   subst (λ (k : Option Held). IsSome (owed_in k)) (sym (put_is c b d (Some h) _ p.puts)) refl,
 )
 
-gives_request : (c : ℕ) (b d : Slots) (q : PlainRequest) (given : HttpNext) → LendsRequest q given → AsksFor c q b d → Gives c given b d
+gives_request : (c : ℕ) (b d : Slots) (q : RequestSeen) (given : HttpNext) → LendsRequest q given → AsksFor c q b d → Gives c given b d
 gives_request c b d q next.Idle lends for = absurd lends
 gives_request c b d q next.Continue lends for = absurd lends
-gives_request c b d q (next.Ask request) lends for = subst (λ (p : PlainRequest). AsksFor c p b d) (sym lends) for
+gives_request c b d q (next.Ask request) lends for = subst (λ (p : RequestSeen). AsksFor c p b d) (sym lends) for
 gives_request c b d q (next.Refuse status) lends for = absurd lends
 gives_request c b d q next.Memory lends for = absurd lends
 gives_request c b d q next.Close lends for = absurd lends
 
-gives_front : (c : ℕ) (b d : Slots) (h : Held) (f : Front) (what : Found) (room : List ℕ) (given : HttpNext) → Frees c b d h (after_finding what (without_pairs h)) →
+gives_front : (c : ℕ) (b d : Slots) (h : Held) (f : Front) (what : HeldFront) (room : List ℕ) (given : HttpNext) → Frees c b d h (after_finding what (without_pairs h)) →
     IsFront (skipped h.rest) f → Fits h.continued f what room → IsWithin (length (skipped h.rest)) what → Lends what room given → Gives c given b d
 gives_front c b d h f seen.Nothing room given p front fits within lends =
     let few = none_is_short h.continued f (skipped h.rest) fits front in
@@ -187,32 +187,32 @@ gives_front c b d h f (seen.Message step None) room given p front fits within le
     subst (λ (n : HttpNext). Gives c n b d) (sym lends)
     (fits.0, asks_for c b d h f fits.0 step None p front fits.1 fits.2 within)
 gives_front c b d h f (seen.Message step (Some parts)) room given p front fits within lends =
-    gives_request c b d fits.0 given (subst (λ (q : PlainRequest). LendsRequest q given) fits.3.request lends)
+    gives_request c b d fits.0 given (subst (λ (q : RequestSeen). LendsRequest q given) fits.3.request lends)
     (asks_for c b d h f fits.0 step (Some parts) p front fits.1 fits.2 within)
 
-gives_closed : (c : ℕ) (b d : Slots) (what : Found) (room : List ℕ) (given : HttpNext) → Puts c b d None None → what ≡ seen.Nothing → Lends what room given → Gives c given b d
+gives_closed : (c : ℕ) (b d : Slots) (what : HeldFront) (room : List ℕ) (given : HttpNext) → Puts c b d None None → what ≡ seen.Nothing → Lends what room given → Gives c given b d
 gives_closed c b d what room given p is lends =
-    let idle : given ≡ next.Idle = subst (λ (w : Found). Lends w room given) is lends in
+    let idle : given ≡ next.Idle = subst (λ (w : HeldFront). Lends w room given) is lends in
     subst (λ (n : HttpNext). Gives c n b d) (sym idle) (
       put_leads c b d None None (StaysDry c) p (λ s holds. closed_dry c s (connection_at c s) refl holds),
       subst (HasRoomFor longest_piece) (sym (put_is c b d None None p)) tt,
     )
 
 -- nothing is given of a connection that is owed a reply and has no byte
-gives_nothing : (c : ℕ) (b d : Slots) (h : Held) (o : Owed) (what : Found) (room : List ℕ) (given : HttpNext) → Puts c b d (Some h) (Some h) → h.owed ≡ Some o → h.rest ≡ [] →
+gives_nothing : (c : ℕ) (b d : Slots) (h : Held) (o : Owed) (what : HeldFront) (room : List ℕ) (given : HttpNext) → Puts c b d (Some h) (Some h) → h.owed ≡ Some o → h.rest ≡ [] →
     what ≡ seen.Nothing → Lends what room given → Gives c given b d
 gives_nothing c b d h o what room given p owed none is lends =
-    let idle : given ≡ next.Idle = subst (λ (w : Found). Lends w room given) is lends in
+    let idle : given ≡ next.Idle = subst (λ (w : HeldFront). Lends w room given) is lends in
     subst (λ (n : HttpNext). Gives c n b d) (sym idle) (
       put_leads c b d (Some h) (Some h) (StaysDry c) p (λ s holds. owed_dry c h o s (connection_at c s) refl holds owed none),
       subst (HasRoomFor longest_piece) (sym (put_is c b d (Some h) (Some h) p)) (omega (arith, ap length none)),
     )
 
 -- one that is owed a reply and has some is given up
-gives_up : (c : ℕ) (b d : Slots) (h : Held) (o : Owed) (what : Found) (room : List ℕ) (given : HttpNext) → c < length b.places → held_at c b ≡ Some h →
+gives_up : (c : ℕ) (b d : Slots) (h : Held) (o : Owed) (what : HeldFront) (room : List ℕ) (given : HttpNext) → c < length b.places → held_at c b ≡ Some h →
     d ≡ with_held c None (without_wait_of c b) → h.owed ≡ Some o → h.rest ≢ [] → what ≡ seen.Interrupted → Lends what room given → Gives c given b d
 gives_up c b d h o what room given within was put owed some is lends =
-    let close : given ≡ next.Close = subst (λ (w : Found). Lends w room given) is lends in
+    let close : given ≡ next.Close = subst (λ (w : HeldFront). Lends w room given) is lends in
     let gone : held_at c d ≡ None = ap (held_at c) put ∙ place_after c b.places None within in
     subst (λ (n : HttpNext). Gives c n b d) (sym close) (
       subst (Leads (Takes c interrupts) b) (sym put) (leads_left c b None (Takes c interrupts)
@@ -223,7 +223,7 @@ gives_up c b d h o what room given within was put owed some is lends =
 -- ---- what was taken
 
 -- taking what was found at the front of a connection
-pub record Took (c : ℕ) (b d : Slots) (what : Found) (room : List ℕ) : Type 0 where
+pub record Took (c : ℕ) (b d : Slots) (what : HeldFront) (room : List ℕ) : Type 0 where
   pub sound : IsSound b
   pub within : c < 64
   pub takes : TakesAt c b.places what d.places room
@@ -233,7 +233,7 @@ pub both : (c : ℕ) (b d : Slots) (x : Option Held) (ws : List Wait) → d.plac
 both c b d x ws places waits = λ i. record { places = places i; waits = waits i }
 
 -- taking from the front ends no wait
-front_waits : (continued : Bool) (f : Front) (what : Found) (room : List ℕ) (c : ℕ) (ws : List Wait) → Fits continued f what room → waits_after what c ws ≡ ws
+front_waits : (continued : Bool) (f : Front) (what : HeldFront) (room : List ℕ) (c : ℕ) (ws : List Wait) → Fits continued f what room → waits_after what c ws ≡ ws
 front_waits continued f seen.Nothing room c ws fits = refl
 front_waits continued f seen.Interrupted room c ws fits = absurd fits
 front_waits continued f seen.Continue room c ws fits = refl
@@ -251,25 +251,25 @@ some_owed (Some o) is = (o, refl)
 isnt_empty : (b : ℕ) (bytes rest : List ℕ) → rest ≡ b ∷ bytes → rest ≢ []
 isnt_empty b bytes rest is none = cc
 
-gives_behind : (c : ℕ) (b d : Slots) (h : Held) (o : Owed) (x : Option Held) (what : Found) (room : List ℕ) (given : HttpNext) (rest : List ℕ) → Took c b d what room → held_at c b ≡ Some h →
+gives_behind : (c : ℕ) (b d : Slots) (h : Held) (o : Owed) (x : Option Held) (what : HeldFront) (room : List ℕ) (given : HttpNext) (rest : List ℕ) → Took c b d what room → held_at c b ≡ Some h →
     d.places ≡ with_place c x b.places → h.owed ≡ Some o → h.rest ≡ rest → FindsBehind rest h what x → Lends what room given → Gives c given b d
 gives_behind c b d h o x what room given [] took was put owed none finds lends =
     let same : d.places ≡ with_place c (Some h) b.places = put ∙ ap (λ (k : Option Held). with_place c k b.places) finds.1 in
-    let stay : d.waits ≡ b.waits = took.waits ∙ ap (λ (w : Found). waits_after w c b.waits) finds.0 in
+    let stay : d.waits ≡ b.waits = took.waits ∙ ap (λ (w : HeldFront). waits_after w c b.waits) finds.0 in
     gives_nothing c b d h o what room given (record { within = omega (arith, took.within, took.sound.count); was = was; put = both c b d (Some h) b.waits same stay }) owed none finds.0 lends
 gives_behind c b d h o x what room given (byte ∷ bytes) took was put owed some finds lends =
     let gone : d.places ≡ with_place c None b.places = put ∙ ap (λ (k : Option Held). with_place c k b.places) finds.1 in
-    let left : d.waits ≡ other_waits c b.waits = took.waits ∙ ap (λ (w : Found). waits_after w c b.waits) finds.0 in
+    let left : d.waits ≡ other_waits c b.waits = took.waits ∙ ap (λ (w : HeldFront). waits_after w c b.waits) finds.0 in
     gives_up c b d h o what room given (omega (arith, took.within, took.sound.count)) was (both c b d None (other_waits c b.waits) gone left) owed (isnt_empty byte bytes h.rest some) finds.0 lends
 
-gives_by : (c : ℕ) (b d : Slots) (h x : Option Held) (what : Found) (room : List ℕ) (given : HttpNext) (t : Bool) → Took c b d what room → held_at c b ≡ h →
+gives_by : (c : ℕ) (b d : Slots) (h x : Option Held) (what : HeldFront) (room : List ℕ) (given : HttpNext) (t : Bool) → Took c b d what room → held_at c b ≡ h →
     d.places ≡ with_place c x b.places → is_some (owed_in h) ≡ t → PassesBy t h what x room → Lends what room given → Gives c given b d
 gives_by c b d None x what room given true took was put owed passes lends = absurd passes
 gives_by c b d (Some h) x what room given true took was put owed passes lends =
     let o = some_owed h.owed owed in gives_behind c b d h o.0 x what room given h.rest took was put o.1 refl passes lends
 gives_by c b d None x what room given false took was put owed passes lends =
     let gone : d.places ≡ with_place c None b.places = put ∙ ap (λ (k : Option Held). with_place c k b.places) passes.1 in
-    let stay : d.waits ≡ b.waits = took.waits ∙ ap (λ (w : Found). waits_after w c b.waits) passes.0 in
+    let stay : d.waits ≡ b.waits = took.waits ∙ ap (λ (w : HeldFront). waits_after w c b.waits) passes.0 in
     gives_closed c b d what room given (record { within = omega (arith, took.within, took.sound.count); was = was; put = both c b d None b.waits gone stay }) passes.0 lends
 gives_by c b d (Some h) x what room given false took was put owed passes lends =
     let unowed : h.owed ≡ None = no_owed h.owed owed in
@@ -281,11 +281,11 @@ gives_by c b d (Some h) x what room given false took was put owed passes lends =
     (record { puts = puts; unowed = unowed; waits_not = unowed_waits_not c b took.sound (ap owed_in was ∙ unowed) }) passes.0.1 passes.0.2 passes.1 lends
 
 -- `next` gives the taken message as it was lent.
-pub gives : (c : ℕ) (b d : Slots) (what : Found) (room : List ℕ) (given : HttpNext) → Took c b d what room → Lends what room given → Gives c given b d
+pub gives : (c : ℕ) (b d : Slots) (what : HeldFront) (room : List ℕ) (given : HttpNext) → Took c b d what room → Lends what room given → Gives c given b d
 gives c b d what room given took lends =
     gives_by c b d (held_at c b) took.takes.0 what room given (is_some (owed_in (held_at c b))) took refl took.takes.2 refl took.takes.1 lends
 
-waits_others : (c : ℕ) (what : Found) (ws : List Wait) → other_waits c (waits_after what c ws) ≡ other_waits c ws
+waits_others : (c : ℕ) (what : HeldFront) (ws : List Wait) → other_waits c (waits_after what c ws) ≡ other_waits c ws
 waits_others c seen.Nothing ws = refl
 waits_others c seen.Interrupted ws = others_twice c ws
 waits_others c seen.Continue ws = refl
@@ -293,6 +293,6 @@ waits_others c (seen.Fault status) ws = refl
 waits_others c (seen.Message step parts) ws = refl
 
 -- and all others stay
-pub others_stay_taking : (c : ℕ) (b d : Slots) (what : Found) (room : List ℕ) → Took c b d what room → OthersStay c b d
+pub others_stay_taking : (c : ℕ) (b d : Slots) (what : HeldFront) (room : List ℕ) → Took c b d what room → OthersStay c b d
 others_stay_taking c b d what room took =
     record { held = took.takes.0; places = took.takes.2; waits = ap (other_waits c) took.waits ∙ waits_others c what b.waits }

@@ -2,10 +2,10 @@
 use Rattle.std.proofs.Common.{◌≡◌, ℕ, ◌+◌, ◌-◌, ◌≤◌, Bool, true, false, List, ◌++◌, length, drop, refl, sym, ap, subst, ◌∙◌, arith, length-append}
 use Rattle.std.specs.Prelude.{Option, Some, None, IsSome}
 use Rattle.std.proofs.lemmas.List.{drop-append-le, length-drop, drop-drop}
-use Rattle.thing_ops.specs.Requests.{PlainRequest}
+use Rattle.thing_ops.specs.Requests.{RequestSeen}
 use Rattle.http_wire.specs.Heads.{skipped}
 use Rattle.http_wire.specs.Stream.{Front, IsFront}
-use Rattle.http_bind.specs.declared.looking.Step.{Step}
+use Rattle.http_bind.specs.declared.looking.MessageStep.{MessageStep}
 use Rattle.http_bind.specs.declared.owed.Owed.{Owed}
 use Rattle.http_bind.specs.Looking.{IsStep}
 use Rattle.http_bind.specs.Replying.{is_head}
@@ -76,7 +76,7 @@ pub lets_fault : (h : Held) (x : Connection) (f : Front) (status : ℕ) → Hold
 lets_fault h x f status a free front is = let at = front_of_stream h x f a front in takes_front (later at.place f) free at.front (at.same ∙ is) refl
 
 -- a connection after a request was taken, and what is held of it
-pub record TakesRequest (h : Held) (x : Connection) (q : PlainRequest) (step : Step) : Type 0 where
+pub record TakesRequest (h : Held) (x : Connection) (q : RequestSeen) (step : MessageStep) : Type 0 where
   pub after : Connection
   pub lets : LetsTake (asks q) x (Some after)
   pub holds : Holds (record h { rest = drop step.used (skipped h.rest); continued = false; owed = Some step.owed }) after
@@ -85,7 +85,7 @@ pub record TakesRequest (h : Held) (x : Connection) (q : PlainRequest) (step : S
 owed_alike : (o p : Owed) → o.bodiless ≡ p.bodiless → o.closes ≡ p.closes → o ≡ p
 owed_alike o p bodiless closes = λ i. record { bodiless = bodiless i; closes = closes i }
 
-pub takes_request : (h : Held) (x : Connection) (f : Front) (q : PlainRequest) (step : Step) → Holds h x → x.owed ≡ None → IsFront (skipped h.rest) f →
+pub takes_request : (h : Held) (x : Connection) (f : Front) (q : RequestSeen) (step : MessageStep) → Holds h x → x.owed ≡ None → IsFront (skipped h.rest) f →
     to_take h.continued f ≡ Some (asks q) → IsStep f q step → step.used ≤ length (skipped h.rest) → TakesRequest h x q step
 takes_request h x f q step a free front is by within =
     let at = front_of_stream h x f a front in

@@ -9,9 +9,9 @@ use Rattle.http_wire.specs.Chunks.{BodyFront, unfinished, faulty, whole}
 use Rattle.http_wire.specs.Stream.{Front, short, message, fault, IsFrontAfter, no_end, one_end, with_body, with_head, without_head, body_front, longest_head}
 use Rattle.http_wire.specs.Judging.{FramedHead, expects}
 use Rattle.http_wire.specs.Reading.{asked}
-use Rattle.thing_ops.specs.Requests.{PlainRequest}
-use Rattle.http_bind.specs.declared.looking.Found.{Found}
-use Rattle.http_bind.specs.declared.looking.Found.TheVariants as seen
+use Rattle.thing_ops.specs.Requests.{RequestSeen}
+use Rattle.http_bind.specs.declared.looking.HeldFront.{HeldFront}
+use Rattle.http_bind.specs.declared.looking.HeldFront.TheVariants as seen
 use Rattle.http_bind.specs.declared.next.HttpNext.{HttpNext}
 use Rattle.http_bind.specs.declared.next.HttpNext.TheVariants as next
 use Rattle.http_bind.specs.Streams.{asks, wants_continue, found, read_as, bytes_used, expected, other_waits}
@@ -64,7 +64,7 @@ front_takes before bytes f (one_end n r some judged is) =
     subst TakesSome (sym is) (head_takes (before + n) r (drop n bytes) (omega (arith, mark_length empty_line (take longest_head bytes) n some)))
 
 -- only a message asks
-asks_take : (t : Bool) (f : Front) (q : PlainRequest) → TakesSome f → (if t then Some wants_continue else found f) ≡ Some (asks q) → 0 < bytes_used f
+asks_take : (t : Bool) (f : Front) (q : RequestSeen) → TakesSome f → (if t then Some wants_continue else found f) ≡ Some (asks q) → 0 < bytes_used f
 asks_take true f q some is = absurd (cc)
 asks_take false (short expect) q some is = absurd (cc)
 asks_take false (message head body used expect) q some is = some
@@ -82,7 +82,7 @@ skipped_few (a ∷ b ∷ bytes) = either _ (skipped_few bytes)
     either false few = omega arith
 
 -- less is left after what was found, if it is no fault
-abbrev FindsLess : Found → ℕ → ℕ → Type 0
+abbrev FindsLess : HeldFront → ℕ → ℕ → Type 0
 FindsLess seen.Nothing before after = Unit {0}
 FindsLess seen.Interrupted before after = after < before
 FindsLess seen.Continue before after = after < before
@@ -94,7 +94,7 @@ never_found : (f : Front) → found f ≡ Some wants_continue → ⊥
 never_found (short expect) is = absurd (cc)
 never_found (message head body used expect) is = read (asked head body) is
   where
-    read : (o : Option PlainRequest) → Some (read_as o) ≡ Some wants_continue → ⊥
+    read : (o : Option RequestSeen) → Some (read_as o) ≡ Some wants_continue → ⊥
     read None same = absurd (cc)
     read (Some q) same = absurd (cc)
 never_found (fault status expect) is = absurd (cc)
@@ -113,17 +113,17 @@ at_least true = omega arith
 at_least false = omega arith
 
 -- where a reply is owed, a connection that is given up had something left
-behind_less : (h : Held) (what : Found) (after : Option Held) (rest : List ℕ) → FindsBehind rest h what after → FindsLess what (left_in (Some h)) (left_in after)
-behind_less h what after [] finds = subst (λ (w : Found). FindsLess w (left_in (Some h)) (left_in after)) (sym finds.0) tt
+behind_less : (h : Held) (what : HeldFront) (after : Option Held) (rest : List ℕ) → FindsBehind rest h what after → FindsLess what (left_in (Some h)) (left_in after)
+behind_less h what after [] finds = subst (λ (w : HeldFront). FindsLess w (left_in (Some h)) (left_in after)) (sym finds.0) tt
 behind_less h what after (b ∷ bytes) finds =
     let some = at_least h.continued in
-    subst (λ (w : Found). FindsLess w (left_in (Some h)) (left_in after)) (sym finds.0)
+    subst (λ (w : HeldFront). FindsLess w (left_in (Some h)) (left_in after)) (sym finds.0)
     (subst (λ (a : Option Held). left_in a < left_in (Some h)) (sym finds.1) (omega (arith, some)))
 
-passes_less : (t : Bool) (old : Option Held) (what : Found) (after : Option Held) (room : List ℕ) → PassesBy t old what after room → FindsLess what (left_in old) (left_in after)
+passes_less : (t : Bool) (old : Option Held) (what : HeldFront) (after : Option Held) (room : List ℕ) → PassesBy t old what after room → FindsLess what (left_in old) (left_in after)
 passes_less true None what after room p = absurd p
 passes_less true (Some h) what after room p = behind_less h what after h.rest p
-passes_less false None what after room p = subst (λ (w : Found). FindsLess w (left_in None) (left_in after)) (sym p.0) tt
+passes_less false None what after room p = subst (λ (w : HeldFront). FindsLess w (left_in None) (left_in after)) (sym p.0) tt
 passes_less false (Some h) seen.Nothing after room p = tt
 passes_less false (Some h) seen.Interrupted after room p = absurd p.0.2
 passes_less false (Some h) seen.Continue after room p =
@@ -140,7 +140,7 @@ passes_less false (Some h) (seen.Message step parts) after room p =
     (omega (arith, some, least, p.1, skipped_few h.rest, length-drop step.used (skipped h.rest)))
 
 -- the answer is what was found
-given_less : (what : Found) (room : List ℕ) (given : HttpNext) (before after : ℕ) → Lends what room given → FindsLess what before after → LeavesLess given before after
+given_less : (what : HeldFront) (room : List ℕ) (given : HttpNext) (before after : ℕ) → Lends what room given → FindsLess what before after → LeavesLess given before after
 given_less seen.Nothing room given before after lends less = subst (λ (g : HttpNext). LeavesLess g before after) (sym lends) tt
 given_less seen.Interrupted room given before after lends less = subst (λ (g : HttpNext). LeavesLess g before after) (sym lends) less
 given_less seen.Continue room given before after lends less = subst (λ (g : HttpNext). LeavesLess g before after) (sym lends) less
@@ -154,7 +154,7 @@ given_less (seen.Message step (Some p)) room next.Memory before after lends less
 given_less (seen.Message step (Some p)) room next.Close before after lends less = absurd lends
 
 -- Taking leaves less.
-pub takes_less : (c : ℕ) (b d : Slots) (what : Found) (room : List ℕ) (given : HttpNext) → Took c b d what room → Lends what room given →
+pub takes_less : (c : ℕ) (b d : Slots) (what : HeldFront) (room : List ℕ) (given : HttpNext) → Took c b d what room → Lends what room given →
     LeavesLess given (left_at c b) (left_at c d)
 takes_less c b d what room given took lends =
     given_less what room given (left_at c b) (left_at c d) lends
@@ -165,7 +165,7 @@ takes_less c b d what room given took lends =
 -- ---- no more is held
 
 -- taking leaves no more bytes
-rest_less : (t : Bool) (old : Option Held) (what : Found) (after : Option Held) (room : List ℕ) → PassesBy t old what after room → HasRoomFor 0 old → HasRoomFor 0 after
+rest_less : (t : Bool) (old : Option Held) (what : HeldFront) (after : Option Held) (room : List ℕ) → PassesBy t old what after room → HasRoomFor 0 old → HasRoomFor 0 after
 rest_less true None what after room p few = absurd p
 rest_less true (Some h) what after room p few = behind h.rest p
   where
@@ -175,7 +175,7 @@ rest_less true (Some h) what after room p few = behind h.rest p
 rest_less false None what after room p few = subst (HasRoomFor 0) (sym p.1) tt
 rest_less false (Some h) what after room p few = subst (HasRoomFor 0) (sym p.2) (found what)
   where
-    found : (w : Found) → HasRoomFor 0 (Some (after_finding w (without_pairs h)))
+    found : (w : HeldFront) → HasRoomFor 0 (Some (after_finding w (without_pairs h)))
     found seen.Nothing = omega (arith, few, skipped_few h.rest)
     found seen.Interrupted = omega (arith, few, skipped_few h.rest)
     found seen.Continue = omega (arith, few, skipped_few h.rest)
@@ -186,7 +186,7 @@ isnt_true : (t : Bool) → t ≡ false → t ≡ true → ⊥
 isnt_true t no_one one = cc
 
 -- unless it was interrupted, a connection is owed a reply if it was
-owed_after : (t : Bool) (old : Option Held) (what : Found) (after : Option Held) (room : List ℕ) → is_some (owed_in old) ≡ t → PassesBy t old what after room →
+owed_after : (t : Bool) (old : Option Held) (what : HeldFront) (after : Option Held) (room : List ℕ) → is_some (owed_in old) ≡ t → PassesBy t old what after room →
     (what ≡ seen.Interrupted) ⊎ (IsSome (owed_in old) → IsSome (owed_in after))
 owed_after true None what after room owed p = absurd p
 owed_after true (Some h) what after room owed p = behind h.rest p
@@ -196,26 +196,26 @@ owed_after true (Some h) what after room owed p = behind h.rest p
     behind (b ∷ bytes) finds = inl finds.0
 owed_after false old what after room owed p = inr (λ some. absurd (isnt_true (is_some (owed_in old)) owed some))
 
-either_waits : (c : ℕ) (ws : List Wait) (what : Found) → (waits_after what c ws ≡ ws) ⊎ (waits_after what c ws ≡ other_waits c ws)
+either_waits : (c : ℕ) (ws : List Wait) (what : HeldFront) → (waits_after what c ws ≡ ws) ⊎ (waits_after what c ws ≡ other_waits c ws)
 either_waits c ws seen.Nothing = inl refl
 either_waits c ws seen.Interrupted = inr refl
 either_waits c ws seen.Continue = inl refl
 either_waits c ws (seen.Fault status) = inl refl
 either_waits c ws (seen.Message step parts) = inl refl
 
-sound_without : (c : ℕ) (b d : Slots) (what : Found) (room : List ℕ) (took : Took c b d what room) → HasRoomFor 0 took.takes.0 → waits_after what c b.waits ≡ other_waits c b.waits → IsSound d
+sound_without : (c : ℕ) (b d : Slots) (what : HeldFront) (room : List ℕ) (took : Took c b d what room) → HasRoomFor 0 took.takes.0 → waits_after what c b.waits ≡ other_waits c b.waits → IsSound d
 sound_without c b d what room took few gone =
     subst IsSound (sym (both c b d took.takes.0 (other_waits c b.waits) took.takes.2 (took.waits ∙ gone))) (left_sound c took.takes.0 b took.sound few)
 
 -- the invariant of the connections stays
-pub sound_taking : (c : ℕ) (b d : Slots) (what : Found) (room : List ℕ) → Took c b d what room → IsSound d
+pub sound_taking : (c : ℕ) (b d : Slots) (what : HeldFront) (room : List ℕ) → Took c b d what room → IsSound d
 sound_taking c b d what room took = by (owed_after (is_some (owed_in (held_at c b))) (held_at c b) what took.takes.0 room refl took.takes.1) (either_waits c b.waits what)
   where
     few : HasRoomFor 0 took.takes.0
     few = rest_less (is_some (owed_in (held_at c b))) (held_at c b) what took.takes.0 room took.takes.1 (took.sound.bounded c)
 
     by : (what ≡ seen.Interrupted) ⊎ (IsOwed c b → IsSome (owed_in took.takes.0)) → (waits_after what c b.waits ≡ b.waits) ⊎ (waits_after what c b.waits ≡ other_waits c b.waits) → IsSound d
-    by (inl is) waits = sound_without c b d what room took few (ap (λ (w : Found). waits_after w c b.waits) is)
+    by (inl is) waits = sound_without c b d what room took few (ap (λ (w : HeldFront). waits_after w c b.waits) is)
     by (inr owed) (inl same) =
         subst IsSound (sym (both c b d took.takes.0 b.waits took.takes.2 (took.waits ∙ same))) (kept_sound c took.takes.0 b took.sound few owed)
     by (inr owed) (inr gone) = sound_without c b d what room took few gone

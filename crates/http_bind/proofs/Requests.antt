@@ -4,7 +4,7 @@ use Rattle.std.specs.Prelude.{Option, Some, None, Result, Ok, Err, not, nat_le, 
 use Rattle.std.specs.List.{starts_with}
 use Rattle.std.proofs.lemmas.Bool.{leb-true}
 use Rattle.std.proofs.lemmas.List.{drop-append-le, length-drop, length-take, drop-drop}
-use Rattle.thing_ops.specs.Requests.{PlainRequest}
+use Rattle.thing_ops.specs.Requests.{RequestSeen}
 use Rattle.http_wire.specs.declared.framing.Framing.{Framing}
 use Rattle.http_wire.specs.declared.framing.Framing.TheVariants as framing
 use Rattle.http_wire.specs.declared.chunks.Chunk.{Chunk}
@@ -139,18 +139,18 @@ front_within bytes f front =
 
 -- ---- one request after another
 
-asked_settled : (f : Front) (q : PlainRequest) → found f ≡ Some (asks q) → IsSettled f
+asked_settled : (f : Front) (q : RequestSeen) → found f ≡ Some (asks q) → IsSettled f
 asked_settled (short expect) q is = absurd cc
 asked_settled (message head body used expect) q is = tt
 asked_settled (fault status expect) q is = tt
 
-first_within : (bytes : List ℕ) (q : PlainRequest) (used : ℕ) → IsFirst bytes q used → used ≤ length bytes
+first_within : (bytes : List ℕ) (q : RequestSeen) (used : ℕ) → IsFirst bytes q used → used ≤ length bytes
 first_within bytes q used first = let few = front_within bytes first.0 first.1 in omega (arith, few, first.3)
 
-first_stays : (bytes more : List ℕ) (q : PlainRequest) (used : ℕ) → IsFirst bytes q used → IsFirst (bytes ++ more) q used
+first_stays : (bytes more : List ℕ) (q : RequestSeen) (used : ℕ) → IsFirst bytes q used → IsFirst (bytes ++ more) q used
 first_stays bytes more q used first = (first.0, front_stays bytes more first.0 first.1 (asked_settled first.0 q first.2), first.2, first.3)
 
-first_stay : (bytes more : List ℕ) (qs : List PlainRequest) (n : ℕ) → AreFirst bytes qs n → AreFirst (bytes ++ more) qs n
+first_stay : (bytes more : List ℕ) (qs : List RequestSeen) (n : ℕ) → AreFirst bytes qs n → AreFirst (bytes ++ more) qs n
 first_stay bytes more [] n are = are
 first_stay bytes more (q ∷ qs) n (used, behind, first, others, is) = (
   used,
@@ -160,7 +160,7 @@ first_stay bytes more (q ∷ qs) n (used, behind, first, others, is) = (
   is,
 )
 
-first_more : (bytes : List ℕ) (qs : List PlainRequest) (n : ℕ) (q : PlainRequest) (used : ℕ) → AreFirst bytes qs n → IsFirst (drop n bytes) q used → AreFirst bytes (qs ++ q ∷ []) (n + used)
+first_more : (bytes : List ℕ) (qs : List RequestSeen) (n : ℕ) (q : RequestSeen) (used : ℕ) → AreFirst bytes qs n → IsFirst (drop n bytes) q used → AreFirst bytes (qs ++ q ∷ []) (n + used)
 first_more bytes [] n q used is next =
     (used, 0, subst (λ (k : ℕ). IsFirst (drop k bytes) q used) is next, refl, omega (arith, is))
 first_more bytes (p ∷ qs) n q used (one, behind, first, others, is) next =
@@ -173,7 +173,7 @@ first_more bytes (p ∷ qs) n q used (one, behind, first, others, is) next =
     )
 
 -- the thing taken is the thing found
-asked_found : (t : Bool) (r : Option Taken) (q : PlainRequest) → cond t (Some wants_continue) r ≡ Some (asks q) → r ≡ Some (asks q)
+asked_found : (t : Bool) (r : Option Taken) (q : RequestSeen) → cond t (Some wants_continue) r ≡ Some (asks q) → r ≡ Some (asks q)
 asked_found true r q is = absurd cc
 asked_found false r q is = is
 
@@ -183,7 +183,7 @@ none_found false r is = is
 
 -- ---- what a connection has been through
 
-pub record Follows (x : Connection) (qs : List PlainRequest) : Type 0 where
+pub record Follows (x : Connection) (qs : List RequestSeen) : Type 0 where
   pub first : AreFirst x.stream qs x.taken
   pub within : x.taken ≤ length x.stream
 
@@ -193,7 +193,7 @@ the_same y z is = cc
 isnt_none : (y : Connection) → Some y ≡ None → ⊥
 isnt_none y is = cc
 
-asks_follows : (x y : Connection) (qs : List PlainRequest) (q : PlainRequest) → Follows x qs → LetsTake (asks q) x (Some y) → Follows y (qs ++ q ∷ [])
+asks_follows : (x y : Connection) (qs : List RequestSeen) (q : RequestSeen) → Follows x qs → LetsTake (asks q) x (Some y) → Follows y (qs ++ q ∷ [])
 asks_follows x y qs q a (takes_front f free front is after) =
     let at : IsFirst (rest_of x) q (bytes_used f) = (f, front, asked_found (expected f && not x.continued) (found f) q is, refl) in
     let few = front_within (rest_of x) f front in
@@ -201,16 +201,16 @@ asks_follows x y qs q a (takes_front f free front is after) =
     (record { first = first_more x.stream qs x.taken q (bytes_used f) a.first at; within = omega (arith, few, a.within, length-drop x.taken x.stream) })
 asks_follows x y qs q a (is_interrupted o owed some is gone) = absurd (isnt_none y gone)
 
-continue_follows : (x y : Connection) (qs : List PlainRequest) → Follows x qs → LetsTake wants_continue x (Some y) → Follows y qs
+continue_follows : (x y : Connection) (qs : List RequestSeen) → Follows x qs → LetsTake wants_continue x (Some y) → Follows y qs
 continue_follows x y qs a (takes_front f free front is after) =
     subst (λ (z : Connection). Follows z qs) (the_same y (after_taking wants_continue f x) after) (record { first = a.first; within = a.within })
 continue_follows x y qs a (is_interrupted o owed some is gone) = absurd (isnt_none y gone)
 
-fault_follows : (x y : Connection) (qs : List PlainRequest) (status : ℕ) → Follows x qs → LetsTake (is_faulty status) x (Some y) → Follows y qs
+fault_follows : (x y : Connection) (qs : List RequestSeen) (status : ℕ) → Follows x qs → LetsTake (is_faulty status) x (Some y) → Follows y qs
 fault_follows x y qs status a (takes_front f free front is after) = subst (λ (z : Connection). Follows z qs) (the_same y x after) a
 fault_follows x y qs status a (is_interrupted o owed some is gone) = absurd (isnt_none y gone)
 
-follows : (x : Connection) (qs : List PlainRequest) → HasTaken x qs → Follows x qs
+follows : (x : Connection) (qs : List RequestSeen) → HasTaken x qs → Follows x qs
 follows x qs (at_opening now) = record { first = refl; within = omega arith }
 follows x qs (with_piece y ps piece now before) =
     let a = follows y ps before in
@@ -236,12 +236,12 @@ takes_all x qs taken spent = (x.taken, (follows x qs taken).first, spent_ends x 
 
 -- ---- a stream has one list of requests
 
-isnt_request : (bytes : List ℕ) (q : PlainRequest) (used : ℕ) → EndsThere bytes → IsFirst bytes q used → ⊥
+isnt_request : (bytes : List ℕ) (q : RequestSeen) (used : ℕ) → EndsThere bytes → IsFirst bytes q used → ⊥
 isnt_request bytes q used ends first =
     let same = at_most_one_front bytes ends.0 first.0 ends.1 first.1 in
     subst IsNoRequest (ap found same ∙ first.2) ends.2
 
-one_list : (bytes : List ℕ) (ps qs : List PlainRequest) (n m : ℕ) → AreFirst bytes ps n → EndsThere (drop n bytes) → AreFirst bytes qs m → EndsThere (drop m bytes) → ps ≡ qs
+one_list : (bytes : List ℕ) (ps qs : List RequestSeen) (n m : ℕ) → AreFirst bytes ps n → EndsThere (drop n bytes) → AreFirst bytes qs m → EndsThere (drop m bytes) → ps ≡ qs
 one_list bytes [] [] n m a ends_a b ends_b = refl
 one_list bytes [] (q ∷ qs) n m a ends_a (used, behind, first, others, is) ends_b =
     absurd (isnt_request bytes q used (subst (λ (k : ℕ). EndsThere (drop k bytes)) a ends_a) first)
@@ -256,7 +256,7 @@ one_list bytes (p ∷ ps) (q ∷ qs) n m (used, behind, first, others, is) ends_
     let rest : ps ≡ qs =
     one_list (drop used bytes) ps qs behind behind_b others (subst EndsThere (there n behind is) ends_a)
     others_here (subst EndsThere (there m behind_b (is_b ∙ ap (λ (k : ℕ). k + behind_b) alike)) ends_b) in
-    ap (λ (z : PlainRequest). z ∷ ps) request ∙ ap (λ (zs : List PlainRequest). q ∷ zs) rest
+    ap (λ (z : RequestSeen). z ∷ ps) request ∙ ap (λ (zs : List RequestSeen). q ∷ zs) rest
 
 pub has_one_list : HasOneList
 has_one_list bytes ps qs (n, are, ends) (m, are_too, ends_too) = one_list bytes ps qs n m are ends are_too ends_too

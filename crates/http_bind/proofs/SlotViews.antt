@@ -3,8 +3,8 @@ use Rattle.std.proofs.Common.{◌≡◌, ℕ, ◌+◌, ◌-◌, ◌≤◌, List,
 use Rattle.std.specs.Prelude.{Option, Some, option_map, is_some}
 use Rattle.std.proofs.lemmas.List.{length-drop, drop-drop}
 use Rattle.http_wire.specs.Heads.{skipped}
-use Rattle.http_bind.specs.declared.slot.State.{State}
-use Rattle.http_bind.specs.declared.looking.Found.{Found}
+use Rattle.http_bind.specs.declared.slot.ConnectionState.{ConnectionState}
+use Rattle.http_bind.specs.declared.looking.HeldFront.{HeldFront}
 use Rattle.http_bind.specs.Kept.{held_with}
 use Rattle.http_bind.specs.Looking.{Shows, IsWithin}
 use Rattle.http_bind.specs.Slots.{Held, owed_in}
@@ -34,7 +34,7 @@ left_of items start rest within is =
     place few = omega (arith, few, length-drop start items, within)
 
 -- the message at the front without the pairs was found and taken
-pub front_taken : (items : List ℕ) (start place : ℕ) (rest bytes : List ℕ) (kept : Option State) (st : State) (old new : Option Held) (what : Found) (room : List ℕ) →
+pub front_taken : (items : List ℕ) (start place : ℕ) (rest bytes : List ℕ) (kept : Option ConnectionState) (st : ConnectionState) (old new : Option Held) (what : HeldFront) (room : List ℕ) →
     option_map (held_with (drop start items)) kept ≡ old → kept ≡ Some st → rest ≡ skipped (drop start items) → drop place items ≡ rest → bytes ≡ drop place items →
     Shows st.continued bytes what room → IsWithin (length bytes) what → new ≡ option_map (after_finding what) (option_map (held_with (drop place items)) kept) →
     TakesFront old what new room
@@ -44,12 +44,12 @@ front_taken items start place rest bytes kept st old new what room view is skips
       subst (λ (xs : List ℕ). Shows st.continued xs what room) front shows,
       subst (λ (xs : List ℕ). IsWithin (length xs) what) front within,
       takes
-          ∙ ap (λ (k : Option State). option_map (after_finding what) (option_map (held_with (drop place items)) k)) is
+          ∙ ap (λ (k : Option ConnectionState). option_map (after_finding what) (option_map (held_with (drop place items)) k)) is
           ∙ ap (λ (xs : List ℕ). Some (after_finding what (held_with xs st))) (left ∙ skips),
     )
 
 -- and so it is passed, where no reply is owed
-pub front_passed : (bytes : List ℕ) (kept : Option State) (st : State) (old new : Option Held) (what : Found) (room : List ℕ) →
+pub front_passed : (bytes : List ℕ) (kept : Option ConnectionState) (st : ConnectionState) (old new : Option Held) (what : HeldFront) (room : List ℕ) →
     option_map (held_with bytes) kept ≡ old → kept ≡ Some st → is_some st.owed ≡ false → TakesFront old what new room → Passes old what new room
 front_passed bytes kept st old new what room view is unowed takes =
     subst (λ (t : Bool). PassesBy t old what new room)

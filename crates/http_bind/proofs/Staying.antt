@@ -4,7 +4,7 @@ use Rattle.std.specs.Prelude.{Option, Some, None, option_map, IsSome}
 use Rattle.std.proofs.lemmas.List.{get_or_read}
 use Rattle.http_bind.specs.declared.owed.Owed.{Owed}
 use Rattle.http_bind.specs.declared.waits.Wait.{Wait}
-use Rattle.http_bind.specs.declared.looking.Found.{Found}
+use Rattle.http_bind.specs.declared.looking.HeldFront.{HeldFront}
 use Rattle.http_bind.specs.Streams.{other_waits, oldest}
 use Rattle.http_bind.specs.Slots.{Held, Slots, with_place, place_at, with_wait, held_at_opening, longer, longest_piece, HasRoomFor, owed_in, IsOwed, IsWaiting, IsSound}
 use Rattle.http_bind.specs.Shown.{Settles, SettlesAt, TakesAt, waits_after}
@@ -55,7 +55,7 @@ settled_stays c now owed h g items ws vs sound at gone settles =
     left_stays c g items ws vs sound gone (settled_room 0 now owed h g settles (subst (HasRoomFor 0) at (sound.bounded c)))
 
 -- taking what was found at the front of a connection
-pub took : (c : ℕ) (b : Slots) (items now_items : List (Option Held)) (ws now_ws : List Wait) (what : Found) (room : List ℕ) → record { places = items; waits = ws } ≡ b →
+pub took : (c : ℕ) (b : Slots) (items now_items : List (Option Held)) (ws now_ws : List Wait) (what : HeldFront) (room : List ℕ) → record { places = items; waits = ws } ≡ b →
     IsSound (record { places = items; waits = ws }) → c < 64 → TakesAt c items what now_items room → now_ws ≡ waits_after what c ws →
     Took c b (record { places = now_items; waits = now_ws }) what room
 took c b items now_items ws now_ws what room all sound within takes waits =

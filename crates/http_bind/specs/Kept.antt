@@ -1,12 +1,12 @@
 -- The code's form of the value that it holds of a connection.
 use Rattle.std.specs.Prelude.{◌≤◌, length, drop, Option, option_map, vec_capacity}
-use Rattle.http_bind.specs.declared.slot.State.{State}
-use Rattle.http_bind.specs.declared.slot.Slot.TheInside.{Inside}
+use Rattle.http_bind.specs.declared.slot.ConnectionState.{ConnectionState}
+use Rattle.http_bind.specs.declared.slot.ConnectionSlot.TheInside.{Inside}
 use Rattle.http_bind.specs.Slots.{Held, longest_rest}
 use Rattle.std.specs.Prelude.{List, ℕ}
 
 -- these bytes are held, in this state
-abbrev pub held_with : List ℕ → State → Held
+abbrev pub held_with : List ℕ → ConnectionState → Held
 held_with rest st = record { rest = rest; continued = st.continued; owed = st.owed; active = st.active }
 
 -- the view: the bytes after those that were taken

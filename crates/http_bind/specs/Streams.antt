@@ -6,7 +6,7 @@ use Rattle.std.specs.List.{list_any}
 use Rattle.std.specs.Option.{is_none}
 use Rattle.thing_ops.specs.declared.outcome.Outcome.{Outcome}
 use Rattle.thing_ops.specs.declared.outcome.Outcome.TheVariants as outcome
-use Rattle.thing_ops.specs.Requests.{PlainRequest}
+use Rattle.thing_ops.specs.Requests.{RequestSeen}
 use Rattle.http_wire.specs.Stream.{Front, short, message, fault, IsFront}
 use Rattle.http_wire.specs.Reading.{asked}
 use Rattle.http_bind.specs.declared.owed.Owed.{Owed}
@@ -103,13 +103,13 @@ Lengthened c piece now s t = t ≡ with_connection c (option_map (lengthened pie
 -- wasn't sent yet (RFC 9110, section 10.1.1); or a fault with its status; or that bytes came behind a request that
 -- isn't replied to yet.
 pub data Taken : Type 0 where
-  asks : (request : PlainRequest) → Taken
+  asks : (request : RequestSeen) → Taken
   wants_continue : Taken
   is_faulty : (status : ℕ) → Taken
   interrupts : Taken
 
 -- the reading of a whole message: a target that isn't taken is a fault
-abbrev pub read_as : Option PlainRequest → Taken
+abbrev pub read_as : Option RequestSeen → Taken
 read_as (Some request) = asks request
 read_as None = is_faulty 400
 

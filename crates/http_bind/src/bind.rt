@@ -5,9 +5,9 @@ ghost use Rattle.http_bind.specs.Slots.{nothing_held, with_held, without_wait_of
 ghost use Rattle.http_bind.specs.Looking.{room_size};
 ghost use Rattle.http_bind.specs.Shown.{TakesAt, MayLend, Lends, SettlesAt, waits_after};
 
-use crate::looking::Found;
+use crate::looking::HeldFront;
 use crate::owed::Owed;
-use crate::slot::Slot;
+use crate::slot::ConnectionSlot;
 use crate::waits::{Wait, Waits};
 use crate::writing::{
     HEAD_BYTES, WORD_BYTES, fault_word, payload, put_answer, put_status_head, put_woken,
@@ -32,7 +32,7 @@ pub const ROOM: usize = 24576;
 #[derive(Drop)]
 pub struct HttpBind {
     alloc: Global,
-    slots: Vec<Slot>,
+    slots: Vec<ConnectionSlot>,
     waits: Waits,
 }
 
@@ -150,7 +150,7 @@ impl HttpBind {
                 HttpOut::of_a_wait()
             }
             _ => {
-                let owed = self.settle(c, now);
+                let owed = self.take_owed(c, now);
                 let payload = payload(outcome, word);
                 let length = put_answer(outcome, payload.len(), owed.closes, out);
                 let body: &[u8] = if owed.bodiless { &[] } else { payload };
@@ -185,7 +185,7 @@ impl HttpBind {
     {
         // Called so that the proof knows that who waits is owed a reply.
         self.always_sound();
-        let owed = self.settle(c, now);
+        let owed = self.take_owed(c, now);
         let length = put_woken(text, owed.closes, out);
         let body = if owed.bodiless { &[] } else { text_of(text) };
         HttpOut {
@@ -274,12 +274,12 @@ impl HttpBind {
 
     /// The request that was taken last from a connection is replied to, and waits no longer if it did. Returns what was
     /// owed to it.
-    fn settle(&mut self, c: ConnectionId, now: u64) -> Owed
+    fn take_owed(&mut self, c: ConnectionId, now: u64) -> Owed
         requires { IsOwed c self.old }
         ensures { SettlesAt c now self.old result self.new }
     {
         self.waits.remove(c);
-        self.slots[c as usize].settle(now)
+        self.slots[c as usize].take_owed(now)
     }
 
     /// Gives up a connection that doesn't go on.
@@ -296,7 +296,7 @@ impl HttpBind {
 
 /// The place of the first connection that is idle. It is a function, since the search proves
 /// `position` in a function alone.
-fn first_idle(slots: &[Slot], now: u64) -> Option<usize>
+fn first_idle(slots: &[ConnectionSlot], now: u64) -> Option<usize>
     ensures first { result ≡ position (is_idle now) slots.now }
     ensures bound { IfSome result (λ place. place < length slots.now) }
 {
@@ -321,13 +321,13 @@ pub fn new_room(alloc: Global) -> Result<Vec<u8>, NoMemory>
 }
 
 /// A slot for each connection.
-fn free_slots(alloc: Global) -> Result<Vec<Slot>, NoMemory>
+fn free_slots(alloc: Global) -> Result<Vec<ConnectionSlot>, NoMemory>
     ensures { IfOk result (λ slots. slots.items ≡ nothing_held) }
 {
     let mut slots = Vec::with_capacity(alloc, CONNECTIONS)?;
     // Each is made anew, since a slot holds memory and has no copy.
     for _slot in 0..CONNECTIONS {
-        slots.push(Slot::new(alloc)?)?;
+        slots.push(ConnectionSlot::new(alloc)?)?;
     }
     Ok(slots)
 }
@@ -335,35 +335,35 @@ fn free_slots(alloc: Global) -> Result<Vec<Slot>, NoMemory>
 /// Takes what is at the front of a connection. The query and the body of a request are written into `room`; a request
 /// that waits and was interrupted waits no longer.
 fn take(
-    slots: &mut Vec<Slot>,
+    slots: &mut Vec<ConnectionSlot>,
     waits: &mut Waits,
     c: ConnectionId,
     alloc: Global,
     room: &mut [u8],
-) -> Found
+) -> HeldFront
     requires connection { c < length slots.old.items }
     requires room { room_size ≤ length room.old }
     ensures taken { TakesAt c slots.old.items result slots.new.items room.new }
     ensures waits { waits.new ≡ waits_after result c waits.old }
 {
     let found = slots[c as usize].next(alloc, room);
-    if matches!(found, Found::Interrupted) {
+    if matches!(found, HeldFront::Interrupted) {
         waits.remove(c);
     }
     found
 }
 
 /// Gives what was found, with the query and the body of a request, which lie in `room`.
-fn lend(found: Found, room: &[u8]) -> HttpNext<'_>
+fn lend(found: HeldFront, room: &[u8]) -> HttpNext<'_>
     requires { MayLend found room.now }
     ensures { Lends found room.now result }
 {
     match found {
-        Found::Nothing => HttpNext::Idle,
-        Found::Interrupted => HttpNext::Close,
-        Found::Continue => HttpNext::Continue,
-        Found::Fault(status) => HttpNext::Refuse(status),
-        Found::Message(_, None) => HttpNext::Memory,
-        Found::Message(_, Some(parts)) => HttpNext::Ask(parts.request_in(room)),
+        HeldFront::Nothing => HttpNext::Idle,
+        HeldFront::Interrupted => HttpNext::Close,
+        HeldFront::Continue => HttpNext::Continue,
+        HeldFront::Fault(status) => HttpNext::Refuse(status),
+        HeldFront::Message(_, None) => HttpNext::Memory,
+        HeldFront::Message(_, Some(parts)) => HttpNext::Ask(parts.request_in(room)),
     }
 }

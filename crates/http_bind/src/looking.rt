@@ -12,7 +12,7 @@ use thing_ops::Verb;
 
 /// A step of a connection past a message.
 #[derive(Clone, Copy, Drop)]
-pub struct Step {
+pub struct MessageStep {
     /// The number of bytes of the message.
     pub used: usize,
     /// The reply that is owed to it.
@@ -21,7 +21,7 @@ pub struct Step {
 
 /// The front of the bytes that are held.
 #[derive(Drop)]
-pub enum Found {
+pub enum HeldFront {
     /// Nothing that can be taken.
     Nothing,
     /// Bytes behind a request that isn't replied to yet.
@@ -31,30 +31,30 @@ pub enum Found {
     /// A fault with this status.
     Fault(u16),
     /// A request, if there is memory for its path.
-    Message(Step, Option<RequestParts>),
+    Message(MessageStep, Option<RequestParts>),
 }
 
 /// Reads the front of these bytes, where the 100 reply was sent or wasn't. The query and the body of a request are
 /// written into `room`.
-pub fn look(alloc: Global, bytes: &[u8], continued: bool, room: &mut [u8]) -> Found
+pub fn look(alloc: Global, bytes: &[u8], continued: bool, room: &mut [u8]) -> HeldFront
     requires { room_size ≤ length room.old }
     ensures shows { Shows continued bytes.now result room.new }
     ensures within { IsWithin (length bytes.now) result }
 {
     let scanned = scan(bytes);
     if wants_continue(&scanned, continued) {
-        return Found::Continue;
+        return HeldFront::Continue;
     }
     match &scanned {
-        Scanned::Short { expect: _ } => Found::Nothing,
-        Scanned::Fault { status, expect: _ } => Found::Fault(*status),
+        Scanned::Short { expect: _ } => HeldFront::Nothing,
+        Scanned::Fault { status, expect: _ } => HeldFront::Fault(*status),
         Scanned::Whole {
             head,
             body,
             used,
             expect: _,
         } => {
-            let step = Step {
+            let step = MessageStep {
                 used: *used,
                 owed: Owed {
                     bodiless: verb_of(head.method) == Verb::Head,
@@ -62,10 +62,10 @@ pub fn look(alloc: Global, bytes: &[u8], continued: bool, room: &mut [u8]) -> Fo
                 },
             };
             match request_of(alloc, head, body, room) {
-                Ok(parts) => Found::Message(step, Some(parts)),
-                Err(TargetFault::BadTarget) => Found::Fault(BAD_REQUEST),
+                Ok(parts) => HeldFront::Message(step, Some(parts)),
+                Err(TargetFault::BadTarget) => HeldFront::Fault(BAD_REQUEST),
                 // Taken also where memory is out, since a reply is owed to it.
-                Err(TargetFault::NoMemory) => Found::Message(step, None),
+                Err(TargetFault::NoMemory) => HeldFront::Message(step, None),
             }
         }
     }

@@ -2,7 +2,7 @@
 
 ghost use Rattle.std.specs.Prelude.{◌≡◌, ◌≤◌, length, drop, option_map, vec_capacity, IfOk, IsSome};
 
-use crate::looking::{Found, look};
+use crate::looking::{HeldFront, look};
 use crate::owed::Owed;
 use http_wire::skip_pairs;
 use std::alloc::Global;
@@ -17,7 +17,7 @@ const IDLE_AFTER: u64 = 120_000;
 
 /// The state of an open connection besides its bytes.
 #[derive(Clone, Copy, Drop)]
-pub struct State {
+pub struct ConnectionState {
     /// The 100 reply was sent for the message at the front.
     pub continued: bool,
     /// The reply that is owed to the request taken last, until it is sent.
@@ -32,13 +32,13 @@ pub struct State {
 /// Taking a message moves no bytes, so that its time doesn't depend on those behind it: `start` is after it. The bytes
 /// in front of `start` go when more come.
 #[derive(Drop)]
-pub struct Slot {
+pub struct ConnectionSlot {
     bytes: Vec<u8>,
     start: usize,
-    state: Option<State>,
+    state: Option<ConnectionState>,
 }
 
-impl Model for Slot {
+impl Model for ConnectionSlot {
     ghost use Rattle.std.specs.Prelude.{Option};
     ghost use Rattle.http_bind.specs.Slots.{Held};
 
@@ -51,17 +51,17 @@ impl Model for Slot {
     ghost invariant = { IsKept };
 }
 
-impl Slot {
+impl ConnectionSlot {
     ghost use Rattle.http_bind.specs.Slots.{held_at_opening, longer, owed_in, is_idle, HasRoomFor};
     ghost use Rattle.http_bind.specs.Looking.{room_size};
     ghost use Rattle.http_bind.specs.Shown.{after_finding, MayPass, LooksBehind, Passes, Settles};
 
     /// A connection that isn't open. Its memory is taken here.
-    pub fn new(alloc: Global) -> Result<Slot, NoMemory>
+    pub fn new(alloc: Global) -> Result<ConnectionSlot, NoMemory>
         ensures { IfOk result (λ s. s ≡ None) }
     {
         let bytes = Vec::with_capacity(alloc, LONGEST_REST)?;
-        Ok(Slot {
+        Ok(ConnectionSlot {
             bytes,
             start: 0,
             state: None,
@@ -74,7 +74,7 @@ impl Slot {
     {
         self.bytes.clear();
         self.start = 0;
-        self.state = Some(State {
+        self.state = Some(ConnectionState {
             continued: false,
             owed: None,
             active: now,
@@ -98,7 +98,7 @@ impl Slot {
             self.start = 0;
             // Never out of memory, since the room was taken at first and the piece fits.
             self.bytes.extend_from_slice(piece).unwrap();
-            self.state = Some(State {
+            self.state = Some(ConnectionState {
                 active: now,
                 ..state
             });
@@ -107,12 +107,12 @@ impl Slot {
 
     /// Takes what is at the front, after CR LF pairs: a message, or the request for a 100 reply. A fault stays there.
     /// Where a reply is owed, nothing is taken, and a connection is given up that has bytes.
-    pub fn next(&mut self, alloc: Global, room: &mut [u8]) -> Found
+    pub fn next(&mut self, alloc: Global, room: &mut [u8]) -> HeldFront
         requires { room_size ≤ length room.old }
         ensures { Passes self.old result self.new room.new }
     {
         match self.state {
-            None => Found::Nothing,
+            None => HeldFront::Nothing,
             Some(state) => {
                 if state.owed.is_some() {
                     return self.look_behind();
@@ -127,35 +127,35 @@ impl Slot {
     }
 
     /// Looks for bytes behind a request that a reply is owed to, CR LF pairs too; if some came, gives the connection up.
-    fn look_behind(&mut self) -> Found
+    fn look_behind(&mut self) -> HeldFront
         requires { IsSome (owed_in self.old) }
         ensures { LooksBehind self.old result self.new }
     {
         if self.bytes[self.start..].is_empty() {
-            Found::Nothing
+            HeldFront::Nothing
         } else {
             self.state = None;
-            Found::Interrupted
+            HeldFront::Interrupted
         }
     }
 
     /// Takes what was found.
-    fn pass(&mut self, found: &Found)
+    fn pass(&mut self, found: &HeldFront)
         requires { MayPass found.now self.old }
         ensures { self.new ≡ option_map (after_finding found.now) self.old }
     {
         if let Some(state) = self.state {
             match found {
-                Found::Nothing | Found::Interrupted | Found::Fault(_) => {}
-                Found::Continue => {
-                    self.state = Some(State {
+                HeldFront::Nothing | HeldFront::Interrupted | HeldFront::Fault(_) => {}
+                HeldFront::Continue => {
+                    self.state = Some(ConnectionState {
                         continued: true,
                         ..state
                     });
                 }
-                Found::Message(step, _) => {
+                HeldFront::Message(step, _) => {
                     self.start += step.used;
-                    self.state = Some(State {
+                    self.state = Some(ConnectionState {
                         continued: false,
                         owed: Some(step.owed),
                         active: state.active,
@@ -166,7 +166,7 @@ impl Slot {
     }
 
     /// The request taken last is replied to, and the connection given up where that was asked. Returns what was owed.
-    pub fn settle(&mut self, now: u64) -> Owed
+    pub fn take_owed(&mut self, now: u64) -> Owed
         requires { IsSome (owed_in self.old) }
         ensures { Settles now self.old result self.new }
     {
@@ -175,7 +175,7 @@ impl Slot {
         self.state = if owed.closes {
             None
         } else {
-            Some(State {
+            Some(ConnectionState {
                 owed: None,
                 active: now,
                 ..state

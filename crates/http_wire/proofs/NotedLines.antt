@@ -14,7 +14,7 @@ use Rattle.thing_ops.specs.declared.conditions.Tags.{Tags}
 use Rattle.thing_ops.specs.declared.conditions.Conditions.{Conditions}
 use Rattle.thing_ops.specs.declared.verb.Verb.{Verb}
 use Rattle.thing_ops.specs.Conditions.{no_tags}
-use Rattle.http_wire.specs.declared.conditions.Noted.{Noted}
+use Rattle.http_wire.specs.declared.conditions.NotedFields.{NotedFields}
 use Rattle.http_wire.specs.Fields.{Line, has_name, values_of, asks_for_version, trimmed}
 use Rattle.http_wire.specs.Conditions.{version_of, items_of, is_star, tags_of, without_weak, match_of, none_match_of, reads, conditions_of, asking_lines, NoOtherLineAsks}
 use Rattle.http_wire.specs.Asked.{line_in, both_tags, noted_of, noted_then, opened, named_in, asked_by}
@@ -99,18 +99,18 @@ noted_first line lines = λ i. record {
       ∙ named_more (values_of (codes "if-none-match") (line ∷ [])) (values_of (codes "if-none-match") lines)) i;
 }
 
-noted_assoc : (a b c : Noted) → noted_then (noted_then a b) c ≡ noted_then a (noted_then b c)
+noted_assoc : (a b c : NotedFields) → noted_then (noted_then a b) c ≡ noted_then a (noted_then b c)
 noted_assoc a b c = λ i. record {
   stands = or_assoc a.stands b.stands c.stands i;
   matched = both_assoc a.matched b.matched c.matched i;
   named = both_assoc a.named b.named c.named i;
 }
 
-noted_none : (a : Noted) → noted_then a (noted_of []) ≡ a
+noted_none : (a : NotedFields) → noted_then a (noted_of []) ≡ a
 noted_none a = λ i. record { stands = or-false a.stands i; matched = both_none a.matched i; named = both_none a.named i }
 
 -- one line more
-pub line_kept : (before now after : Noted) (all left rest : List (List ℕ)) (line : List ℕ) →
+pub line_kept : (before now after : NotedFields) (all left rest : List (List ℕ)) (line : List ℕ) →
     noted_then before (noted_of (map line_in all)) ≡ noted_then now (noted_of (map line_in left)) → left ≡ line ∷ rest →
     after ≡ noted_then now (noted_of (line_in line ∷ [])) →
     noted_then before (noted_of (map line_in all)) ≡ noted_then after (noted_of (map line_in rest))
@@ -119,10 +119,10 @@ line_kept before now after all left rest line so_far is noted =
     ∙ ap (λ (xs : List (List ℕ)). noted_then now (noted_of (map line_in xs))) is
     ∙ ap (noted_then now) (noted_first (line_in line) (map line_in rest))
     ∙ sym (noted_assoc now (noted_of (line_in line ∷ [])) (noted_of (map line_in rest)))
-    ∙ ap (λ (n : Noted). noted_then n (noted_of (map line_in rest))) (sym noted)
+    ∙ ap (λ (n : NotedFields). noted_then n (noted_of (map line_in rest))) (sym noted)
 
 -- no line more
-pub lines_kept : (before now : Noted) (all left : List (List ℕ)) →
+pub lines_kept : (before now : NotedFields) (all left : List (List ℕ)) →
     noted_then before (noted_of (map line_in all)) ≡ noted_then now (noted_of (map line_in left)) → left ≡ [] →
     now ≡ noted_then before (noted_of (map line_in all))
 lines_kept before now all left so_far is =
@@ -151,9 +151,9 @@ values_by name line t is = value_at (has_name name line) line ∙ ap (λ (b : Bo
 one_value : (value : List ℕ) → items_of (value ∷ []) ≡ map trimmed (slice_split (λ b. b == 44) value)
 one_value value = ap (map trimmed) (append-nil (slice_split (λ b. b == 44) value))
 
-pub matched_line : (noted : Noted) (line : Line) (tags : Tags) → str_eq_ignore_ascii_case line.0 (codes "if-match") ≡ true →
+pub matched_line : (noted : NotedFields) (line : Line) (tags : Tags) → str_eq_ignore_ascii_case line.0 (codes "if-match") ≡ true →
     tags ≡ both_tags noted.matched (named_in false (slice_split (λ b. b == 44) line.1)) →
-    ◌≡◌ {A = Noted} (record { stands = true; matched = tags; named = noted.named }) (noted_then noted (noted_of (line ∷ [])))
+    ◌≡◌ {A = NotedFields} (record { stands = true; matched = tags; named = noted.named }) (noted_then noted (noted_of (line ∷ [])))
 matched_line noted line tags is said =
     let one = values_by (codes "if-match") line true is in
     let other = values_by (codes "if-none-match") line false (not_both line.0 is) in
@@ -174,7 +174,7 @@ matched_line noted line tags is said =
 -- ---- what is asked
 
 -- the notes where nothing was noted before
-pub nothing_before : (matched named : Tags) (after : Noted) (lines : List Line) → matched ≡ no_tags → named ≡ no_tags →
+pub nothing_before : (matched named : Tags) (after : NotedFields) (lines : List Line) → matched ≡ no_tags → named ≡ no_tags →
     after ≡ noted_then (record { stands = false; matched = matched; named = named }) (noted_of lines) → after ≡ noted_of lines
 nothing_before matched named after lines none none_too is =
     is ∙ (λ i. noted_then (record { stands = false; matched = none i; named = none_too i }) (noted_of lines))

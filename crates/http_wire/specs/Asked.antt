@@ -7,7 +7,7 @@ use Rattle.std.specs.Str.Parse.{digits_value}
 use Rattle.thing_ops.specs.declared.conditions.Tags.{Tags}
 use Rattle.thing_ops.specs.declared.conditions.Conditions.{Conditions}
 use Rattle.thing_ops.specs.declared.verb.Verb.{Verb}
-use Rattle.http_wire.specs.declared.conditions.Noted.{Noted}
+use Rattle.http_wire.specs.declared.conditions.NotedFields.{NotedFields}
 use Rattle.http_wire.specs.Fields.{Line, has_name, values_of, trimmed}
 use Rattle.http_wire.specs.Conditions.{items_of, tags_of, without_weak, none_match_of, reads, asking_lines}
 
@@ -35,7 +35,7 @@ abbrev pub both_tags : Tags → Tags → Tags
 both_tags one other = record { any = one.any || other.any; list = one.list ++ other.list }
 
 -- the notes of lines: whether one is If-Match, and the versions that the lines of each name say
-abbrev pub noted_of : List Line → Noted
+abbrev pub noted_of : List Line → NotedFields
 noted_of lines = record {
   stands = list_any (has_name (codes "if-match")) lines;
   matched = tags_of (items_of (values_of (codes "if-match") lines));
@@ -43,7 +43,7 @@ noted_of lines = record {
 }
 
 -- and of others after them
-abbrev pub noted_then : Noted → Noted → Noted
+abbrev pub noted_then : NotedFields → NotedFields → NotedFields
 noted_then one other = record {
   stands = one.stands || other.stands;
   matched = both_tags one.matched other.matched;
@@ -60,7 +60,7 @@ abbrev pub named_in : Bool → List (List ℕ) → Tags
 named_in weak items = tags_of (map (opened weak) (map trimmed items))
 
 -- the demands of notes
-abbrev pub asked_by : Verb → Noted → Conditions
+abbrev pub asked_by : Verb → NotedFields → Conditions
 asked_by verb noted = record {
   if_match = if noted.stands then Some noted.matched else None;
   known = record { any = noted.named.any && reads verb; list = noted.named.list };

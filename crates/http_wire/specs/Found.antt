@@ -2,8 +2,8 @@
 use Rattle.std.specs.Prelude.{◌≡◌, ◌≤◌, ℕ, List, [], ◌∷◌, ◌||◌, Bool, true, false, codes, Option, Some, None, Result, Ok, Err, if◌then◌else◌}
 use Rattle.httparse.specs.Grammar.{RequestHead}
 use Rattle.thing_ops.specs.declared.request.Accept.{Accept}
-use Rattle.http_wire.specs.declared.fields.Found.{Found}
-use Rattle.http_wire.specs.declared.fields.Found.TheVariants as found
+use Rattle.http_wire.specs.declared.fields.FoundField.{FoundField}
+use Rattle.http_wire.specs.declared.fields.FoundField.TheVariants as found
 use Rattle.http_wire.specs.declared.fields.Fields.{Fields}
 use Rattle.http_wire.specs.declared.heads.HeadParts.{HeadParts}
 use Rattle.http_wire.specs.Heads.{IsHead, is_newer, line_feeds, are_paired}
@@ -13,7 +13,7 @@ use Rattle.http_wire.specs.Asked.{lines_in}
 use Rattle.http_wire.specs.Judging.{IsJudged}
 
 -- the number of times that a field was found
-abbrev pub standing_of : Found → Standing
+abbrev pub standing_of : FoundField → Standing
 standing_of found.Absent = absent
 standing_of (found.Once value) = once value.now
 standing_of found.Often = often

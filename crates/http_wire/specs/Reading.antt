@@ -3,7 +3,7 @@ use Rattle.std.specs.Prelude.{◌≡◌, ◌≤◌, ℕ, ◌+◌, List, take, dr
 use Rattle.std.specs.Str.{bytes_eq}
 use Rattle.thing_ops.specs.declared.verb.Verb.{Verb}
 use Rattle.thing_ops.specs.declared.verb.Verb.TheVariants as verb
-use Rattle.thing_ops.specs.Requests.{PlainRequest}
+use Rattle.thing_ops.specs.Requests.{RequestSeen}
 use Rattle.http_wire.specs.declared.request.RequestParts.{RequestParts}
 use Rattle.http_wire.specs.Conditions.{conditions_of}
 use Rattle.http_wire.specs.Judging.{longest_body}
@@ -26,7 +26,7 @@ abbrev pub query_of : List ℕ → List ℕ
 query_of target = drop (query_place target) target
 
 -- the request of a message whose target has this path
-abbrev pub request_at : PlainHead → List ℕ → List (List ℕ) → PlainRequest
+abbrev pub request_at : PlainHead → List ℕ → List (List ℕ) → RequestSeen
 request_at h body path = record {
   verb = verb_of h.method;
   path = path;
@@ -38,13 +38,13 @@ request_at h body path = record {
 }
 
 -- The request of a message with this head and this decoded body; there is none where its target isn't taken.
-abbrev pub asked : PlainHead → List ℕ → Option PlainRequest
+abbrev pub asked : PlainHead → List ℕ → Option RequestSeen
 asked h body = option_map (request_at h body) (segments_of h.target)
 
 -- ---- a request whose query and body were written to the beginning of a buffer
 
 -- the request of these parts
-abbrev pub request_in : RequestParts → List ℕ → PlainRequest
+abbrev pub request_in : RequestParts → List ℕ → RequestSeen
 request_in p room = record {
   verb = p.verb;
   path = p.path;
@@ -56,10 +56,10 @@ request_in p room = record {
 }
 
 -- the parts are those of this request, whose query is no longer than a head, and its body no longer than a body may be
-pub record AreParts (q : PlainRequest) (room : List ℕ) (p : RequestParts) : Type 0 where
+pub record AreParts (q : RequestSeen) (room : List ℕ) (p : RequestParts) : Type 0 where
   pub request : request_in p room ≡ q
   pub within : p.query_length + p.body_length ≤ longest_head + longest_body
 
 -- the parts are those of the request of this message
 abbrev pub IsRead : PlainHead → List ℕ → List ℕ → RequestParts → Type 0
-IsRead h body room p = (q : PlainRequest) × (asked h body ≡ Some q) × AreParts q room p
+IsRead h body room p = (q : RequestSeen) × (asked h body ≡ Some q) × AreParts q room p

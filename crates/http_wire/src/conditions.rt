@@ -42,7 +42,7 @@ impl Head<'_> {
 
 /// The notes of some header lines.
 #[derive(Drop)]
-pub struct Noted {
+pub struct NotedFields {
     /// One of them is If-Match.
     pub stands: bool,
     /// The versions that the lines If-Match name.
@@ -55,7 +55,7 @@ pub struct Noted {
 fn conditions_in(alloc: Global, verb: Verb, lines: &[u8]) -> Result<Conditions, NoMemory>
     ensures { IfOk result (λ c. c ≡ conditions_of verb (asking_lines (lines_in lines.now))) }
 {
-    let mut noted = Noted {
+    let mut noted = NotedFields {
         stands: false,
         matched: Tags::none(alloc),
         named: Tags::none(alloc),
@@ -65,7 +65,7 @@ fn conditions_in(alloc: Global, verb: Verb, lines: &[u8]) -> Result<Conditions, 
 }
 
 /// Notes what header lines say. The notes are lent, since a function that owned them would give them up at each `?`.
-fn note_lines(noted: &mut Noted, lines: &[u8]) -> Result<(), NoMemory>
+fn note_lines(noted: &mut NotedFields, lines: &[u8]) -> Result<(), NoMemory>
     ensures { OnOk result (noted.new ≡ noted_then noted.old (noted_of (lines_in lines.now))) }
 {
     for line in cut_at_each(b'\n', lines) {
@@ -75,7 +75,7 @@ fn note_lines(noted: &mut Noted, lines: &[u8]) -> Result<(), NoMemory>
 }
 
 /// Notes what one header line says.
-fn note_line(noted: &mut Noted, line: &[u8]) -> Result<(), NoMemory>
+fn note_line(noted: &mut NotedFields, line: &[u8]) -> Result<(), NoMemory>
     ensures { OnOk result (noted.new ≡ noted_then noted.old (noted_of (line_in line.now ∷ []))) }
 {
     let (name, behind) = cut(b':', line);
@@ -141,7 +141,7 @@ fn version_of(item: &[u8]) -> Option<u32>
     ensures { result ≡ version_named item.now }
 {
     if is_quoted(item) {
-        number_of(&item[1..item.len() - 1])
+        number_of_digits(&item[1..item.len() - 1])
     } else {
         None
     }
@@ -156,7 +156,7 @@ fn is_quoted(item: &[u8]) -> bool
 }
 
 /// The number from 1 to 4,294,967,295 that bytes say in decimal.
-fn number_of(digits: &[u8]) -> Option<u32>
+fn number_of_digits(digits: &[u8]) -> Option<u32>
     ensures { result ≡ number_named digits.now }
 {
     match str::from_utf8(digits) {
@@ -176,7 +176,7 @@ fn number_in(text: &str) -> Option<u32>
 }
 
 /// The demands of the notes, where the verb is this one.
-fn asked_by(noted: Noted, verb: Verb) -> Conditions
+fn asked_by(noted: NotedFields, verb: Verb) -> Conditions
     ensures { result ≡ asked_by_noted verb noted }
 {
     let reads = reads(verb);

@@ -13,7 +13,7 @@ use thing_ops::{Accept, Format};
 
 /// A field that may come once: absent, with its value, or too often.
 #[derive(Clone, Copy, Drop)]
-pub enum Found<'a> {
+pub enum FoundField<'a> {
     /// There is no such line.
     Absent,
     /// There is one, with this value.
@@ -26,13 +26,13 @@ pub enum Found<'a> {
 #[derive(Clone, Copy, Drop)]
 pub struct Fields<'a> {
     /// `Host`.
-    pub host: Found<'a>,
+    pub host: FoundField<'a>,
     /// `Content-Length`.
-    pub content_length: Found<'a>,
+    pub content_length: FoundField<'a>,
     /// `Transfer-Encoding`.
-    pub transfer_encoding: Found<'a>,
+    pub transfer_encoding: FoundField<'a>,
     /// `Content-Type`.
-    pub content_type: Found<'a>,
+    pub content_type: FoundField<'a>,
     /// An `Expect` is `100-continue`.
     pub continues: bool,
     /// A `Connection` has the option `close`.
@@ -51,10 +51,10 @@ pub const EITHER_TYPE: Accept = Accept {
 
 /// The fields of no header lines.
 const NOTHING: Fields<'static> = Fields {
-    host: Found::Absent,
-    content_length: Found::Absent,
-    transfer_encoding: Found::Absent,
-    content_type: Found::Absent,
+    host: FoundField::Absent,
+    content_length: FoundField::Absent,
+    transfer_encoding: FoundField::Absent,
+    content_type: FoundField::Absent,
     continues: false,
     closes: false,
     accept: None,
@@ -98,15 +98,15 @@ fn note<'a>(fields: &mut Fields<'a>, name: &[u8], value: &'a [u8])
 }
 
 /// The field after a further line, which has its name or hasn't.
-fn more<'a>(before: Found<'a>, is_named: bool, value: &'a [u8]) -> Found<'a>
+fn more<'a>(before: FoundField<'a>, is_named: bool, value: &'a [u8]) -> FoundField<'a>
     ensures { standing_of result ≡ more_if is_named value.now (standing_of before.entry) }
 {
     if !is_named {
         return before;
     }
     match before {
-        Found::Absent => Found::Once(value),
-        Found::Once(_) | Found::Often => Found::Often,
+        FoundField::Absent => FoundField::Once(value),
+        FoundField::Once(_) | FoundField::Often => FoundField::Often,
     }
 }
 
@@ -194,13 +194,13 @@ fn type_of(value: &[u8]) -> &[u8]
 }
 
 /// The format of the body.
-pub fn format(content_type: Found<'_>) -> Format
+pub fn format(content_type: FoundField<'_>) -> Format
     ensures { result ≡ format_of (standing_of content_type.entry) }
 {
     match content_type {
-        Found::Absent => Format::Absent,
-        Found::Once(value) => format_of_name(type_of(value)),
-        Found::Often => Format::Other,
+        FoundField::Absent => Format::Absent,
+        FoundField::Once(value) => format_of_name(type_of(value)),
+        FoundField::Often => Format::Other,
     }
 }
 

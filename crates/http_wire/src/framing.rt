@@ -8,7 +8,7 @@ ghost use Rattle.http_wire.specs.Judging.{longest_body, IsBounded, is_length, fr
 ghost use Rattle.http_wire.specs.Bodies.{longest_reply};
 ghost use Rattle.http_wire.specs.Found.{standing_of, said_in};
 
-use crate::fields::{Found, is_alike};
+use crate::fields::{FoundField, is_alike};
 use crate::heads::HeadParts;
 use crate::statuses::{BAD_REQUEST, CONTENT_TOO_LARGE, NOT_IMPLEMENTED};
 
@@ -31,11 +31,11 @@ pub fn framing_of(head: &HeadParts<'_>) -> Result<Framing, u16>
 {
     let fields = &head.fields;
     // HTTP/1.1 without Host, or with several, is refused, since a server must do so (RFC 9112, section 3.2).
-    if head.newer && !matches!(fields.host, Found::Once(_)) {
+    if head.newer && !matches!(fields.host, FoundField::Once(_)) {
         return Err(BAD_REQUEST);
     }
     // The same with several Content-Type, since a sender may write it once alone (RFC 9110, section 5.3).
-    if matches!(fields.content_type, Found::Often) {
+    if matches!(fields.content_type, FoundField::Often) {
         return Err(BAD_REQUEST);
     }
     read_framing(
@@ -50,8 +50,8 @@ pub fn framing_of(head: &HeadParts<'_>) -> Result<Framing, u16>
 pub fn read_framing(
     most: usize,
     newer: bool,
-    length: Found<'_>,
-    coding: Found<'_>,
+    length: FoundField<'_>,
+    coding: FoundField<'_>,
 ) -> Result<Framing, u16>
     requires { most ≤ longest_reply }
     ensures ok { result ≡ framing_by most newer (standing_of length.entry) (standing_of coding.entry) }
@@ -60,17 +60,17 @@ pub fn read_framing(
     // Both fields are refused, since they may be an attempt to smuggle a request (RFC 9112, section 6.3). Each case has
     // an arm of its own, since that gives the proof an equation.
     match length {
-        Found::Absent => match coding {
-            Found::Absent => Ok(Framing::Stated(0)),
-            Found::Once(value) => coded(newer, value),
-            Found::Often => Err(BAD_REQUEST),
+        FoundField::Absent => match coding {
+            FoundField::Absent => Ok(Framing::Stated(0)),
+            FoundField::Once(value) => coded(newer, value),
+            FoundField::Often => Err(BAD_REQUEST),
         },
-        Found::Once(value) => match coding {
-            Found::Absent => stated(most, value),
-            Found::Once(_) => Err(BAD_REQUEST),
-            Found::Often => Err(BAD_REQUEST),
+        FoundField::Once(value) => match coding {
+            FoundField::Absent => stated(most, value),
+            FoundField::Once(_) => Err(BAD_REQUEST),
+            FoundField::Often => Err(BAD_REQUEST),
         },
-        Found::Often => Err(BAD_REQUEST),
+        FoundField::Often => Err(BAD_REQUEST),
     }
 }
 

@@ -9,7 +9,7 @@ ghost use Rattle.http_wire.specs.ReplyFronts.{IsReplyJudged, with_status, are_ab
 ghost use Rattle.http_wire.specs.ReplySeen.{IsReplyReadAs};
 
 use crate::chunks::LONGEST_REPLY;
-use crate::fields::{Fields, Found, fields_in};
+use crate::fields::{Fields, FoundField, fields_in};
 use crate::framing::{Framing, read_framing};
 use crate::heads::{MOST_LINE_FEEDS, MOST_LINES, count_line_feeds};
 use crate::statuses::{BAD_REQUEST, CONTENT_TOO_LARGE, HEAD_TOO_LARGE, NO_CONTENT, NOT_MODIFIED};
@@ -108,18 +108,18 @@ fn some_framing(framing: Result<Framing, u16>) -> Result<Option<Framing>, u16>
 }
 
 /// Neither of two fields comes.
-fn are_absent(length: Found<'_>, coding: Found<'_>) -> bool
+fn are_absent(length: FoundField<'_>, coding: FoundField<'_>) -> bool
     ensures { result ≡ are_absent_of (standing_of length.entry) (standing_of coding.entry) }
 {
     // Each case has an arm of its own, since that gives the proof an equation.
     match length {
-        Found::Absent => match coding {
-            Found::Absent => true,
-            Found::Once(_) => false,
-            Found::Often => false,
+        FoundField::Absent => match coding {
+            FoundField::Absent => true,
+            FoundField::Once(_) => false,
+            FoundField::Often => false,
         },
-        Found::Once(_) => false,
-        Found::Often => false,
+        FoundField::Once(_) => false,
+        FoundField::Often => false,
     }
 }
 

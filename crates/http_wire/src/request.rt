@@ -88,12 +88,12 @@ pub fn verb_of(method: &[u8]) -> Verb
 }
 
 impl RequestParts {
-    ghost use Rattle.thing_ops.specs.Requests.{plain_request};
+    ghost use Rattle.thing_ops.specs.Requests.{request_seen};
 
     /// The request with its query and body, which lie at the beginning of `room`.
     pub fn request_in(self, room: &[u8]) -> Request<'_>
         requires { self.query_length + self.body_length ≤ length room.now }
-        ensures { plain_request result ≡ request_in self room.now }
+        ensures { request_seen result ≡ request_in self room.now }
     {
         let RequestParts {
             verb,

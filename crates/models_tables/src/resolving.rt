@@ -3,7 +3,7 @@
 use crate::case::{Case, put_tree, word_of};
 use std::alloc::{AllocError, Global};
 use std::fmt::Write;
-use tm_resolve::{Link, Relation, Resolver, resolve};
+use tm_resolve::{CountedLink, Relation, Resolver, resolve};
 use wot_json::Tree;
 
 /// Writes a value, `-` for none.
@@ -15,7 +15,7 @@ fn put_value(said: &mut String, alloc: Global, value: &Option<Tree>) -> Result<(
 }
 
 /// Writes a link: its index, its target and its instance name.
-fn put_link(said: &mut String, alloc: Global, link: &Link) -> Result<(), AllocError> {
+fn put_link(said: &mut String, alloc: Global, link: &CountedLink) -> Result<(), AllocError> {
     write!(said, "{} ", link.index)?;
     said.push_str(match &link.target {
         Some(target) => target.as_str(),
@@ -26,7 +26,7 @@ fn put_link(said: &mut String, alloc: Global, link: &Link) -> Result<(), AllocEr
 }
 
 /// Writes links, with `; ` between them.
-fn put_list(said: &mut String, alloc: Global, links: &[Link]) -> Result<(), AllocError> {
+fn put_list(said: &mut String, alloc: Global, links: &[CountedLink]) -> Result<(), AllocError> {
     if links.is_empty() {
         return said.push_str("none");
     }

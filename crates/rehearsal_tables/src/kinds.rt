@@ -3,7 +3,7 @@
 
 use crate::asks::{number_of, response_to, responses};
 use crate::played::{
-    CLIENT, Played, SERVIENT, acted_with, copy_in, message_in, notice_in, response_in,
+    CLIENT, Played, SERVIENT, acted_with, copy_in, message_in, notification_in, response_in,
 };
 use coap_msg::{Message, OBSERVE, Type4};
 use servient_rehearsal::{AskMade, End, Move, Moves, SentDatagram, World};
@@ -31,7 +31,7 @@ pub struct Kinds {
     registrations: bool,
     observations: bool,
     resets: bool,
-    late_notices: bool,
+    late_notifications: bool,
     given_up: bool,
     timed_out: bool,
     others: bool,
@@ -47,7 +47,7 @@ pub const NOTHING: Kinds = Kinds {
     registrations: false,
     observations: false,
     resets: false,
-    late_notices: false,
+    late_notifications: false,
     given_up: false,
     timed_out: false,
     others: false,
@@ -138,9 +138,9 @@ fn note_replies(kinds: &mut Kinds, world: &World) {
 }
 
 /// The moment at which the first notification with this token was sent.
-fn first_notice(world: &World, token: &[u8]) -> Option<u64> {
+fn first_notification(world: &World, token: &[u8]) -> Option<u64> {
     for sent in world.sent.iter() {
-        if let Some(message) = notice_in(sent) {
+        if let Some(message) = notification_in(sent) {
             if message.token == token {
                 return Some(sent.moment);
             }
@@ -150,9 +150,9 @@ fn first_notice(world: &World, token: &[u8]) -> Option<u64> {
 }
 
 /// Whether a notification was sent so long after the first one with its token.
-fn is_late_notice(world: &World, sent: &SentDatagram) -> bool {
-    match notice_in(sent) {
-        Some(message) => match first_notice(world, message.token) {
+fn is_late_notification(world: &World, sent: &SentDatagram) -> bool {
+    match notification_in(sent) {
+        Some(message) => match first_notification(world, message.token) {
             Some(first) => sent.moment.saturating_sub(first) > NEWER_AFTER,
             None => false,
         },
@@ -164,7 +164,7 @@ fn is_late_notice(world: &World, sent: &SentDatagram) -> bool {
 fn times_sent(world: &World, wanted: &SentDatagram) -> usize {
     let mut times: usize = 0;
     for sent in world.sent.iter() {
-        if notice_in(sent).is_some() && sent.bytes.as_slice() == wanted.bytes.as_slice() {
+        if notification_in(sent).is_some() && sent.bytes.as_slice() == wanted.bytes.as_slice() {
             times = times.saturating_add(1);
         }
     }
@@ -185,7 +185,7 @@ fn last_value(status: &[Turn]) -> i64 {
 /// Whether a notification says this value.
 fn is_notified(world: &World, value: i64) -> bool {
     for sent in world.sent.iter() {
-        if let Some(message) = notice_in(sent) {
+        if let Some(message) = notification_in(sent) {
             if number_of(message.payload) == value {
                 return true;
             }
@@ -196,10 +196,10 @@ fn is_notified(world: &World, value: i64) -> bool {
 
 /// Notes the kinds that the notifications show: two of one registration that are far apart, and one that was sent five
 /// times, where the last value that was written was in none.
-fn note_notices(kinds: &mut Kinds, played: &Played<'_>) {
+fn note_notifications(kinds: &mut Kinds, played: &Played<'_>) {
     let is_last_said = is_notified(played.world, last_value(played.status));
     for sent in played.world.sent.iter() {
-        kinds.late_notices |= is_late_notice(played.world, sent);
+        kinds.late_notifications |= is_late_notification(played.world, sent);
         kinds.given_up |= !is_last_said && times_sent(played.world, sent) >= MOST_TIMES;
     }
 }
@@ -230,7 +230,7 @@ pub fn note(kinds: &mut Kinds, played: &Played<'_>) {
     note_asks(kinds, played.world);
     note_news(kinds, played.world);
     note_replies(kinds, played.world);
-    note_notices(kinds, played);
+    note_notifications(kinds, played);
     note_moves(kinds, played.world, played.moves);
 }
 
@@ -266,7 +266,7 @@ pub fn put(text: &mut String, kinds: &Kinds) -> Result<(), AllocError> {
     put_kind(
         text,
         "notifications were 128 seconds apart",
-        kinds.late_notices,
+        kinds.late_notifications,
     )?;
     put_kind(
         text,

@@ -70,7 +70,7 @@ pub fn response_in<'a>(sent: &'a SentDatagram, made: &AskMade) -> Option<Message
 }
 
 /// The message to an observer in a datagram, if it is a notification.
-pub fn notice_in(sent: &SentDatagram) -> Option<Message<'_>> {
+pub fn notification_in(sent: &SentDatagram) -> Option<Message<'_>> {
     message_in(sent, SERVIENT, CLIENT, Type4::Con)
 }
 

@@ -30,10 +30,10 @@ use Rattle.servient_outside.specs.Out.{OutSeen, OutShows, NoWriteFailed}
 use Rattle.servient_outside.proofs.ToldLaws.{continues_same, continues_then}
 use Rattle.servient_core.specs.Trace.{at_network, outside}
 use Rattle.servient_core.specs.Sections.{Shown, saw as was_seen, shown_of, section}
-use Rattle.consuming.specs.declared.operation.Operation.{Operation}
+use Rattle.consuming.specs.declared.operation.ThingOperation.{ThingOperation}
 use Rattle.consuming.specs.declared.consumed.Consumed.{Consumed}
 use Rattle.consuming.specs.declared.consumed.Consumed.TheVariants as consumed
-use Rattle.consuming.specs.declared.consumed.Outcome.{Outcome as ConsumedOutcome}
+use Rattle.consuming.specs.declared.consumed.ConsumedOutcome.{ConsumedOutcome}
 use Rattle.consuming.specs.Deeds.{happens, prints, sight, put_of}
 use Rattle.consuming.specs.Deeds as operation
 use Rattle.consuming.specs.Consuming.{Consumes}
@@ -127,7 +127,7 @@ asked_others files n m slots o q P r result shows is =
       unprinted = ends_unprinted r result is;
     }
 
-pub operated : (files : FilesSeen) (n m : NetSeen) (slots : List Seen) (o q : OutSeen) (k : Consumption) (tree : Tree) (input : Option Tree) (c : Chosen) (x : Operation) (r : Consumed) (result : Result Ending Ended) → IsAskedFor k tree input x
+pub operated : (files : FilesSeen) (n m : NetSeen) (slots : List Seen) (o q : OutSeen) (k : Consumption) (tree : Tree) (input : Option Tree) (c : Chosen) (x : ThingOperation) (r : Consumed) (result : Result Ending Ended) → IsAskedFor k tree input x
     → operation.Shows (λ deeds. Consumes x c deeds r) (sight n o) (sight m q) (put_of r) → IsEndOf r result → EndsPrinting (Operates k tree input c) (around files (outside n slots)) (around files (outside m slots)) o q result
 operated files n m slots o q k tree input c x r result asked shows is =
     asked_others files n m slots o q (IsOperated k tree input c) r result (record { deeds = shows.deeds; holds = record { request = x; asked = asked; consumes = shows.holds }; shows = shows.shows }) is
@@ -253,7 +253,7 @@ same_choice k tree other op name only seen o t p n s (has_no_affordance none end
 same_choice k tree other op name only seen o t p n s (has_no_form none end) = has_no_form (same_no_choice k (json_of tree) (json_of other) op name only fault.NoForm t p n s none) end
 same_choice k tree other op name only seen o t p n s (choose_memory end) = choose_memory end
 
-chooses_alike : (k : Consumption) (tree : Tree) (input : Option Tree) (x : Operation) (only : Option Scheme) (a b : Around) (o : Outcome Chosen) (text : List ℕ) → k.scheme ≡ only → IsAskedFor k tree input x → ComesOut (Chooses x.tree.now x.op x.name.now only) a b o text
+chooses_alike : (k : Consumption) (tree : Tree) (input : Option Tree) (x : ThingOperation) (only : Option Scheme) (a b : Around) (o : Outcome Chosen) (text : List ℕ) → k.scheme ≡ only → IsAskedFor k tree input x → ComesOut (Chooses x.tree.now x.op x.name.now only) a b o text
     → ComesOut (Chooses tree (form_operation k.operation) k.name k.scheme) a b o text
 chooses_alike k tree input x only a b o text s asked p = record {
   seen = p.seen;
@@ -262,12 +262,12 @@ chooses_alike k tree input x only a b o text s asked p = record {
   text_is = p.text_is;
 }
 
-pub form_error : (k : Consumption) (tree : Tree) (input : Option Tree) (x : Operation) (only : Option Scheme) (a : Around) (o : OutSeen) (e : Ended) → k.scheme ≡ only → IsAskedFor k tree input x → Performs {A = Chosen} (Chooses x.tree.now x.op x.name.now only) a a (Err e)
+pub form_error : (k : Consumption) (tree : Tree) (input : Option Tree) (x : ThingOperation) (only : Option Scheme) (a : Around) (o : OutSeen) (e : Ended) → k.scheme ≡ only → IsAskedFor k tree input x → Performs {A = Chosen} (Chooses x.tree.now x.op x.name.now only) a a (Err e)
     → EndsPrinting (OperatesOn k tree input) a a o o (Err e)
 form_error k tree input x only a o e s asked p =
     error_prints (Chooses tree (form_operation k.operation) k.name k.scheme) (Operates k tree input) a a o e (choose_not tree (form_operation k.operation) k.name k.scheme) (chooses_alike k tree input x only a a (ends (status_of e)) (text_of e) s asked p)
 
-pub form_then : (k : Consumption) (tree : Tree) (input : Option Tree) (x : Operation) (only : Option Scheme) (a b : Around) (o q : OutSeen) (c : Chosen) (r : Result Ending Ended) → k.scheme ≡ only → IsAskedFor k tree input x → ComesOut (Chooses x.tree.now x.op x.name.now only) a a (goes_on c) []
+pub form_then : (k : Consumption) (tree : Tree) (input : Option Tree) (x : ThingOperation) (only : Option Scheme) (a b : Around) (o q : OutSeen) (c : Chosen) (r : Result Ending Ended) → k.scheme ≡ only → IsAskedFor k tree input x → ComesOut (Chooses x.tree.now x.op x.name.now only) a a (goes_on c) []
     → EndsPrinting (Operates k tree input c) a b o q r → EndsPrinting (OperatesOn k tree input) a b o q r
 form_then k tree input x only a b o q c r s asked first second =
     then_prints (Chooses tree (form_operation k.operation) k.name k.scheme) (Operates k tree input) a a b o q c r (chooses_alike k tree input x only a a (goes_on c) [] s asked first) second

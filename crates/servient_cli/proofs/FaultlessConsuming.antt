@@ -18,7 +18,7 @@ use Rattle.servient_outside.specs.declared.files.HeldFile.{HeldFile}
 use Rattle.servient_outside.specs.Network.{heard, did, broke}
 use Rattle.consuming.specs.declared.consumed.Consumed.{Consumed}
 use Rattle.consuming.specs.declared.consumed.Consumed.TheVariants as consumed
-use Rattle.consuming.specs.declared.operation.Operation.{Operation}
+use Rattle.consuming.specs.declared.operation.ThingOperation.{ThingOperation}
 use Rattle.consuming.specs.Deeds.{happens, prints}
 use Rattle.consuming.specs.Deeds as operation
 use Rattle.consuming.specs.Consuming.{Consumes, Discovers}
@@ -39,7 +39,7 @@ breaks_trouble (happens (did act) ∷ deeds) breaks = breaks_trouble deeds break
 breaks_trouble (happens (broke call) ∷ deeds) breaks = tt
 breaks_trouble (prints text ∷ deeds) breaks = breaks_trouble deeds breaks
 
-failed_trouble : (o : Operation) (c : Chosen) (deeds : List operation.Deed) → Consumes o c deeds consumed.Failed → HasTrouble (deeds_of deeds)
+failed_trouble : (o : ThingOperation) (c : Chosen) (deeds : List operation.Deed) → Consumes o c deeds consumed.Failed → HasTrouble (deeds_of deeds)
 failed_trouble o c deeds consumes = breaks_trouble deeds (failing_breaks o c deeds consumes)
 
 discovery_trouble : (c : Chosen) (deeds : List operation.Deed) → Discovers c deeds consumed.Failed → HasTrouble (deeds_of deeds)

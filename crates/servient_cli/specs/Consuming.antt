@@ -17,11 +17,11 @@ use Rattle.servient_outside.specs.declared.out.Put.{Put}
 use Rattle.servient_outside.specs.declared.out.Put.TheVariants as put
 use Rattle.servient_outside.specs.Out.{OutSeen, OutShows}
 use Rattle.servient_core.specs.Trace.{at_network}
-use Rattle.consuming.specs.declared.operation.Operation.{Operation}
+use Rattle.consuming.specs.declared.operation.ThingOperation.{ThingOperation}
 use Rattle.consuming.specs.declared.consumed.Consumed.{Consumed}
 use Rattle.consuming.specs.declared.consumed.Consumed.TheVariants as consumed
-use Rattle.consuming.specs.declared.consumed.Outcome.{Outcome as ConsumedOutcome}
-use Rattle.consuming.specs.declared.consumed.Outcome.TheVariants as outcome
+use Rattle.consuming.specs.declared.consumed.ConsumedOutcome.{ConsumedOutcome}
+use Rattle.consuming.specs.declared.consumed.ConsumedOutcome.TheVariants as outcome
 use Rattle.consuming.specs.declared.consumed.Status.{Status}
 use Rattle.consuming.specs.declared.consumed.Status.TheVariants as status
 use Rattle.consuming.specs.Deeds.{happens, prints}
@@ -119,7 +119,7 @@ line_after consumed.Spent = spent_line
 line_after consumed.NoMemory = memory_line
 
 -- an operation is the one that the words ask for, with this description and this value
-pub record IsAskedFor (k : Consumption) (tree : Tree) (input : Option Tree) (x : Operation) : Type 0 where
+pub record IsAskedFor (k : Consumption) (tree : Tree) (input : Option Tree) (x : ThingOperation) : Type 0 where
   pub tree_is : json_of x.tree.now ≡ json_of tree
   pub op_is : x.op ≡ form_operation k.operation
   pub name_is : x.name.now ≡ k.name
@@ -134,7 +134,7 @@ pub data EndsAfter (P : List operation.Deed → Consumed → Type 0) (seen : Lis
 
 -- Doing the operation by what was chosen for it.
 pub record IsOperated (k : Consumption) (tree : Tree) (input : Option Tree) (c : Chosen) (deeds : List operation.Deed) (r : Consumed) : Type 0 where
-  pub request : Operation
+  pub request : ThingOperation
   pub asked : IsAskedFor k tree input request
   pub consumes : Consumes request c deeds r
 

@@ -12,7 +12,7 @@ ghost use Rattle.servient_cli.specs.Ending.{EndsBy};
 use crate::checking::check_file;
 use crate::derivation::derive_plan;
 use crate::ending::{Ended, Ending};
-use crate::listening::{Request, serve_plan};
+use crate::listening::{ServeRequest, serve_plan};
 use crate::reading::{LONGEST_JSON, read_file};
 use crate::replay::{plan_name, read_inputs, run_inputs};
 use crate::storming::storm;
@@ -45,7 +45,7 @@ pub fn run_command<F: Files, N: Net, R: Handlers>(
             run_inputs(alloc, plan_name(plan), inputs, u64::from(*events), rack)
         }
         Command::Serve { plan, budget, idle } => {
-            let request = Request {
+            let request = ServeRequest {
                 plan: plan.as_str(),
                 budget: *budget,
                 idle: *idle,

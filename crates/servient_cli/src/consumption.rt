@@ -20,7 +20,7 @@ ghost use Rattle.servient_cli.specs.Ending.{Performs};
 use crate::described::{read_description, read_input};
 use crate::ending::{Ended, Ending, end_with};
 use command_words::Consumption;
-use consuming::{Consumed, Operation, consume};
+use consuming::{Consumed, ThingOperation, consume};
 use servient_outside::{Files, Net, Out};
 use std::alloc::Global;
 use wot_consumer::{ChooseFault, Chosen, Scheme, choose};
@@ -68,7 +68,7 @@ fn consume_described<'a, N: Net, O: Out>(
     let tree = &described.tree;
     let name = consumption.name.as_str();
     let input = described.input.as_ref();
-    let operation = Operation {
+    let operation = ThingOperation {
         tree,
         op: consumption.operation.op(),
         name,
@@ -81,7 +81,7 @@ fn consume_described<'a, N: Net, O: Out>(
 /// Chooses a form, of this scheme where one is wanted, and does the operation by it.
 fn operate_by_form<N: Net, O: Out>(
     alloc: Global,
-    operation: &Operation<'_>,
+    operation: &ThingOperation<'_>,
     only: Option<Scheme>,
     net: &mut N,
     out: &mut O,
@@ -100,7 +100,7 @@ fn operate_by_form<N: Net, O: Out>(
 /// The form for an operation, of this scheme where one is wanted.
 fn choose_form(
     alloc: Global,
-    operation: &Operation<'_>,
+    operation: &ThingOperation<'_>,
     only: Option<Scheme>,
 ) -> Result<Chosen, Ended>
     requires valid { IsValid (json_of operation.now.tree.now) }
@@ -120,7 +120,7 @@ fn choose_form(
 /// Does the operation by the form that was chosen for it.
 fn operate<N: Net, O: Out>(
     alloc: Global,
-    operation: &Operation<'_>,
+    operation: &ThingOperation<'_>,
     chosen: &Chosen,
     net: &mut N,
     out: &mut O,

@@ -7,7 +7,7 @@ ghost use Rattle.servient_cli.specs.Lines.{file_line, input_line, invalid_line, 
 
 use crate::print::put_number;
 use command_words::WordsFault;
-use consuming::{Consumed, Outcome, Status};
+use consuming::{Consumed, ConsumedOutcome, Status};
 use std::alloc::Global;
 use wot_json::{Bytes, NoMemory, quoted};
 
@@ -172,7 +172,7 @@ impl Ending {
     }
 
     /// An operation had this outcome, and wasn't done.
-    pub fn outcome(alloc: Global, outcome: Outcome) -> Result<Ending, NoMemory>
+    pub fn outcome(alloc: Global, outcome: ConsumedOutcome) -> Result<Ending, NoMemory>
         ensures { IfOk result (λ e. (e.status ≡ 10) × (e.text ≡ line_after (Consumed.Other outcome))) }
     {
         let mut text = Bytes::copy_of(alloc, b"outcome ")?;
@@ -205,19 +205,19 @@ fn input_text(alloc: Global, name: &str) -> Result<Bytes, NoMemory>
 }
 
 /// Puts an outcome at the end.
-fn put_outcome(text: &mut Bytes, outcome: Outcome) -> Result<(), NoMemory>
+fn put_outcome(text: &mut Bytes, outcome: ConsumedOutcome) -> Result<(), NoMemory>
     ensures { OnOk result (text.new ≡ text.old ++ outcome_text outcome) }
 {
     match outcome {
-        Outcome::Input => text.extend(b"input"),
-        Outcome::Output => text.extend(b"output"),
-        Outcome::Malformed => text.extend(b"malformed"),
-        Outcome::Long => text.extend(b"long"),
-        Outcome::Closed => text.extend(b"closed"),
-        Outcome::Reset => text.extend(b"reset"),
-        Outcome::Stopped => text.extend(b"stopped"),
-        Outcome::Status(Status::Http(number)) => put_number(text, number),
-        Outcome::Status(Status::Coap(code)) => put_code(text, code),
+        ConsumedOutcome::Input => text.extend(b"input"),
+        ConsumedOutcome::Output => text.extend(b"output"),
+        ConsumedOutcome::Malformed => text.extend(b"malformed"),
+        ConsumedOutcome::Long => text.extend(b"long"),
+        ConsumedOutcome::Closed => text.extend(b"closed"),
+        ConsumedOutcome::Reset => text.extend(b"reset"),
+        ConsumedOutcome::Stopped => text.extend(b"stopped"),
+        ConsumedOutcome::Status(Status::Http(number)) => put_number(text, number),
+        ConsumedOutcome::Status(Status::Coap(code)) => put_code(text, code),
     }
 }
 

@@ -27,7 +27,7 @@ use wot_json::Bytes;
 
 /// The request of `serve`.
 #[derive(Clone, Copy)]
-pub struct Request<'a> {
+pub struct ServeRequest<'a> {
     /// The name of the plan's file.
     pub plan: &'a str,
     /// The bound on the events that are taken.
@@ -39,7 +39,7 @@ pub struct Request<'a> {
 /// Reads a plan, opens its servient, listens at the plan's place, and serves the events.
 pub fn serve_plan<F: Files, N: Net, R: Handlers>(
     alloc: Global,
-    request: Request<'_>,
+    request: ServeRequest<'_>,
     files: &mut F,
     net: &mut N,
     rack: &mut R,
@@ -56,7 +56,7 @@ pub fn serve_plan<F: Files, N: Net, R: Handlers>(
 fn serve_planned<N: Net, R: Handlers>(
     alloc: Global,
     planned: &Planned,
-    request: Request<'_>,
+    request: ServeRequest<'_>,
     net: &mut N,
     rack: &mut R,
 ) -> Result<Ending, Ended>

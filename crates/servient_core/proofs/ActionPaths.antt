@@ -8,16 +8,16 @@ use Rattle.thing_ops.specs.declared.routing.RouteKind.{RouteKind}
 use Rattle.thing_ops.specs.declared.routing.RouteKind.TheVariants as route
 use Rattle.thing_ops.specs.declared.verb.Verb.{Verb}
 use Rattle.thing_ops.specs.declared.verb.Verb.TheVariants as verb
-use Rattle.thing_ops.specs.Requests.{PlainRequest}
+use Rattle.thing_ops.specs.Requests.{RequestSeen}
 use Rattle.thing_ops.specs.Verbs.{verbs_of}
 use Rattle.thing_ops.specs.Routes.{route_of, has_form, the, any, entry_id, invocation_id, invocation_in}
 use Rattle.thing_site.specs.Site.{Placed, Site}
 use Rattle.thing_core.specs.State.{State, Invocation, invocation_named}
 use Rattle.thing_site.specs.Places.{place_at, thing_in, affordance_in, where_observable, act_at, act_of, flags_of, is_listed}
-use Rattle.thing_site.specs.declared.place.Place.{Place}
-use Rattle.thing_site.specs.declared.place.Act.{Act}
-use Rattle.thing_site.specs.declared.place.Place.TheVariants.{Description as description, AllProperties as all_properties, Property as property, Observed as observed, Action as action, Invocation as invocation, Event as event, Subscribed as subscribed}
-use Rattle.thing_site.specs.declared.place.Act.TheVariants.{Invokes as invokes}
+use Rattle.thing_site.specs.declared.place.Resource.{Resource}
+use Rattle.thing_site.specs.declared.place.ThingAct.{ThingAct}
+use Rattle.thing_site.specs.declared.place.Resource.TheVariants.{Description as description, AllProperties as all_properties, Property as property, Observed as observed, Action as action, Invocation as invocation, Event as event, Subscribed as subscribed}
+use Rattle.thing_site.specs.declared.place.ThingAct.TheVariants.{Invokes as invokes}
 use Rattle.thing_core.specs.Places.{place_of, where_stands}
 use Rattle.thing_core.specs.Refusals.{act_asked}
 
@@ -27,7 +27,7 @@ pub record IsShortPath (path : List (List ℕ)) : Type 0 where
   pub each : All (λ segment. length segment ≤ 255) path
 
 -- an action is invoked by a path of three segments
-abbrev pub ShortIfInvoked : Act → List (List ℕ) → Type 0
+abbrev pub ShortIfInvoked : ThingAct → List (List ℕ) → Type 0
 ShortIfInvoked (invokes p) path = IsShortPath path
 ShortIfInvoked act path = Unit {0}
 
@@ -73,15 +73,15 @@ three_if_action path =
     p0
 
 -- the place of such a path, and the act that it is asked for
-abbrev ShortIfPlace : Place → List (List ℕ) → Type 0
+abbrev ShortIfPlace : Resource → List (List ℕ) → Type 0
 ShortIfPlace (action p) path = IsShortPath path
 ShortIfPlace place path = Unit {0}
 
-abbrev ShortIfAsked : Option Act → List (List ℕ) → Type 0
+abbrev ShortIfAsked : Option ThingAct → List (List ℕ) → Type 0
 ShortIfAsked None path = Unit {0}
 ShortIfAsked (Some act) path = ShortIfInvoked act path
 
-of_short : (place : Place) (v : Verb) (path : List (List ℕ)) → ShortIfPlace place path → ShortIfInvoked (act_of place v) path
+of_short : (place : Resource) (v : Verb) (path : List (List ℕ)) → ShortIfPlace place path → ShortIfInvoked (act_of place v) path
 of_short (description thing) v path short = tt
 of_short (all_properties thing) verb.Get path short = tt
 of_short (all_properties thing) verb.Head path short = tt
@@ -109,18 +109,18 @@ of_short (invocation p id) verb.Other path short = tt
 of_short (event p) v path short = tt
 of_short (subscribed p) v path short = tt
 
-short_at : (form : RouteKind) (place : Place) (v : Verb) (path : List (List ℕ)) → ShortIfPlace place path → ShortIfAsked (act_at form place v) path
+short_at : (form : RouteKind) (place : Resource) (v : Verb) (path : List (List ℕ)) → ShortIfPlace place path → ShortIfAsked (act_at form place v) path
 short_at form place v path short = by_test (is_listed v (verbs_of form (flags_of place)))
   where
     by_test : (b : Bool) → ShortIfAsked (if b then Some (act_of place v) else None) path
     by_test true = of_short place v path short
     by_test false = tt
 
-abbrev ShortIfFound : Option Place → List (List ℕ) → Type 0
+abbrev ShortIfFound : Option Resource → List (List ℕ) → Type 0
 ShortIfFound None path = Unit {0}
 ShortIfFound (Some place) path = ShortIfPlace place path
 
-mapped : {A : Type 0} (make : A → Place) (found : Option A) (path : List (List ℕ)) → ((a : A) → ShortIfPlace (make a) path) → ShortIfFound (option_map make found) path
+mapped : {A : Type 0} (make : A → Resource) (found : Option A) (path : List (List ℕ)) → ((a : A) → ShortIfPlace (make a) path) → ShortIfFound (option_map make found) path
 mapped make None path each = tt
 mapped make (Some a) path each = each a
 
@@ -147,7 +147,7 @@ place_short route.Things path site short three = tt
 place_short route.Entry path site short three = tt
 place_short route.Nowhere path site short three = tt
 
-stands_short : (invocations : List Invocation) (place : Place) (path : List (List ℕ)) → ShortIfPlace place path → ShortIfFound (where_stands invocations place) path
+stands_short : (invocations : List Invocation) (place : Resource) (path : List (List ℕ)) → ShortIfPlace place path → ShortIfFound (where_stands invocations place) path
 stands_short invocations (description thing) path short = short
 stands_short invocations (all_properties thing) path short = short
 stands_short invocations (property p) path short = short
@@ -157,17 +157,17 @@ stands_short invocations (invocation p id) path short = mapped (λ _. invocation
 stands_short invocations (event p) path short = short
 stands_short invocations (subscribed p) path short = short
 
-there_short : (invocations : List Invocation) (found : Option Place) (path : List (List ℕ)) → ShortIfFound found path → ShortIfFound (option_and_then (where_stands invocations) found) path
+there_short : (invocations : List Invocation) (found : Option Resource) (path : List (List ℕ)) → ShortIfFound found path → ShortIfFound (option_and_then (where_stands invocations) found) path
 there_short invocations None path short = tt
 there_short invocations (Some place) path short = stands_short invocations place path short
 
-asked_short : (form : RouteKind) (found : Option Place) (v : Verb) (path : List (List ℕ)) → ShortIfFound found path → ShortIfAsked (option_and_then (λ place. act_at form place v) found) path
+asked_short : (form : RouteKind) (found : Option Resource) (v : Verb) (path : List (List ℕ)) → ShortIfFound found path → ShortIfAsked (option_and_then (λ place. act_at form place v) found) path
 asked_short form None v path short = tt
 asked_short form (Some place) v path short = short_at form place v path short
 
-pub short_if_invoked : (site : Site) (q : PlainRequest) (s : State) (act : Act) → All (λ segment. length segment ≤ 255) q.path
+pub short_if_invoked : (site : Site) (q : RequestSeen) (s : State) (act : ThingAct) → All (λ segment. length segment ≤ 255) q.path
     → act_asked (record { site = site; state = s; request = q }) ≡ Some act → ShortIfInvoked act q.path
 short_if_invoked site q s act short asked =
-    subst (λ (o : Option Act). ShortIfAsked o q.path) asked
+    subst (λ (o : Option ThingAct). ShortIfAsked o q.path) asked
     (asked_short (route_of q.path) (place_of q.path site s.invocations) q.verb q.path
     (there_short s.invocations (place_at (route_of q.path) q.path site) q.path (place_short (route_of q.path) q.path site short (three_if_action q.path))))

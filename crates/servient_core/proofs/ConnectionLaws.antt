@@ -6,7 +6,7 @@ use Rattle.servient_base.specs.Moves.{Then, is_done, Refines}
 use Rattle.servient_base.proofs.MovesLaws.{refines_goes_on, refines_is_done}
 use Rattle.thing_ops.specs.declared.outcome.Outcome.{Outcome}
 use Rattle.thing_ops.specs.declared.outcome.Outcome.TheVariants as outcome
-use Rattle.thing_ops.specs.Requests.{PlainRequest}
+use Rattle.thing_ops.specs.Requests.{RequestSeen}
 use Rattle.thing_handler.specs.Handler.{Seen}
 use Rattle.thing_handler.specs.Turns.{HandlerCall, RackShows}
 use Rattle.thing_handler.proofs.RackLaws.{rack_shows_none}
@@ -83,7 +83,7 @@ sends_if_any c k n m slots None shows = refines_acts k n m slots [] shows
 sends_if_any c k n m slots (Some reply) shows = refines_acts k n m slots (acts_of_reply c reply) shows
 
 -- a request is taken, done and answered, and what is emitted is delivered
-pub takes_request : (site : Site) (c : ℕ) (q : PlainRequest) (done : Done) (o : Outcome) (k l : Layers) (b d : Slots) (e : Kept) (f : Entries) (n m : NetSeen) (before after : List Seen) (v : Outside)
+pub takes_request : (site : Site) (c : ℕ) (q : RequestSeen) (done : Done) (o : Outcome) (k l : Layers) (b d : Slots) (e : Kept) (f : Entries) (n m : NetSeen) (before after : List Seen) (v : Outside)
     → Leads (Takes c (asks q)) k.http b
     → Refines StandsFor Shows (PerformsByHttp site q done) (record k { http = b }) (record k { http = b; exposed = e; directory = f }) (outside n before) (outside n after)
     → done.outcome ≡ o → SendsAnswer c o k.moment b d n m
@@ -106,7 +106,7 @@ takes_request site c q done o k l b d e f n m before after v leads performs come
     delivers))
 
 -- reading it is out of memory: nothing is done, neither by the directory nor by the Things
-unread : (site : Site) (q : PlainRequest) (k : Layers) (w : Outside) → Refines StandsFor Shows (PerformsByHttp site q (only outcome.Memory)) k k w w
+unread : (site : Site) (q : RequestSeen) (k : Layers) (w : Outside) → Refines StandsFor Shows (PerformsByHttp site q (only outcome.Memory)) k k w w
 unread site q k w = either (is_of_directory (route_of q.path)) refl
   where
     either : (b : Bool) → is_of_directory (route_of q.path) ≡ b → Refines StandsFor Shows (PerformsByHttp site q (only outcome.Memory)) k k w w
@@ -128,7 +128,7 @@ unread site q k w = either (is_of_directory (route_of q.path)) refl
       record { seen = []; move = inr (isnt, (s.thing, [], has_no_memory (refl, record { next = refl; saw = refl }), record { next = refl; saw = refl })); shows = shows_in_order.none w },
     )
 
-pub takes_unread : (site : Site) (c : ℕ) (q : PlainRequest) (k : Layers) (b d : Slots) (n m : NetSeen) (slots : List Seen)
+pub takes_unread : (site : Site) (c : ℕ) (q : RequestSeen) (k : Layers) (b d : Slots) (n m : NetSeen) (slots : List Seen)
     → Leads (Takes c (asks q)) k.http b → SendsAnswer c outcome.Memory k.moment b d n m
     → Refines StandsFor Shows (TakesNextMessage site c) k (record k { http = d }) (outside n slots) (outside m slots)
 takes_unread site c q k b d n m slots leads sends =

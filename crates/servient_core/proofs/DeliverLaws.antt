@@ -20,7 +20,7 @@ use Rattle.http_bind.specs.declared.waits.Wait.{Wait}
 use Rattle.http_bind.specs.Slots.{Slots, HasRoom}
 use Rattle.servient_outside.specs.Network.{NetSeen}
 use Rattle.servient_core.specs.Trace.{Outside, outside, Shows}
-use Rattle.servient_core.specs.Machine.{State, Move, OnHttp, OnThing, Sends, acts_of_reply, RepliesToWait, AnswersWait, AnswersLateWait, MarksWatchers, Delivers, DeliversEach, PollsAndDelivers}
+use Rattle.servient_core.specs.Machine.{State, Move, OnHttp, OnThing, Sends, acts_of_reply, RepliesToWait, AnswersWait, AnswersLateWait, MarksObservers, Delivers, DeliversEach, PollsAndDelivers}
 use Rattle.wot_registry.specs.Times.{last_moment}
 use Rattle.servient_core.specs.Serving.{StandsFor, IsReady}
 use Rattle.servient_core.specs.Keeping.{DoesQuietly, DoesMove, LeavesNoMore, OnlyDelivers, SendsToWait, PollsOne, polls, ends, AnswersWaits}
@@ -133,7 +133,7 @@ delivering_begins k n = record {
 pub delivers_one : (target : ℕ) (k l : Layers) (c : Server) (n m : NetSeen) → DoesQuietly (AnswersWaits target) k l n m → c ≡ with_emitted target l.coap
     → DoesQuietly (Delivers target) k (record l { coap = c }) n m
 delivers_one target k l c n m answers marks = λ slots.
-    then_moves (AnswersWaits target) (MarksWatchers target) k l (record l { coap = c }) (outside n slots) (outside m slots) (outside m slots) (answers slots)
+    then_moves (AnswersWaits target) (MarksObservers target) k l (record l { coap = c }) (outside n slots) (outside m slots) (outside m slots) (answers slots)
     (refines_coap (λ now before after. after ≡ with_emitted target before) l c (outside m slots) marks)
 
 pub only_delivers : (target : ℕ) (k l : Layers) (c : Server) → l ≡ record k { http = l.http } → LeavesNoMore k.http l.http → c ≡ with_emitted target l.coap

@@ -12,7 +12,7 @@ use Rattle.http_bind.specs.Slots.{Slots}
 use Rattle.servient_outside.specs.declared.net.Act.TheVariants as act
 use Rattle.servient_outside.specs.Network.{NetSeen, NetShows, did}
 use Rattle.servient_core.specs.Trace.{outside, Shows}
-use Rattle.servient_core.specs.Machine.{OnCoap, Does, SendsNotification, NothingIsDue, SendsNotifications, EndsEvent, notice_bytes}
+use Rattle.servient_core.specs.Machine.{OnCoap, Does, SendsNotification, NothingIsDue, SendsNotifications, EndsEvent, notification_bytes}
 use Rattle.servient_core.specs.Serving.{StandsFor, IsReady}
 use Rattle.servient_core.specs.Keeping.{DoesQuietly, LeavesNoMore, AnswersLateWaits, ClosesAllIdle}
 use Rattle.servient_core.specs.declared.layers.Layers.{Layers}
@@ -23,18 +23,18 @@ use Rattle.servient_core.proofs.LoopLaws.{Repeating, repeating_begins, repeating
 
 -- one is sent
 sends_notification : (notice : Notice) (k : Layers) (c : Server) (n m : NetSeen) (slots : List Seen) → SendsNext k.moment (Some notice) k.coap c
-    → NetShows n m (did (act.Datagram notice.to (notice_bytes notice k.exposed.state)) ∷ [])
+    → NetShows n m (did (act.Datagram notice.to (notification_bytes notice k.exposed.state)) ∷ [])
     → Refines StandsFor Shows SendsNotification k (record k { coap = c }) (outside n slots) (outside m slots)
 sends_notification notice k c n m slots sends shows = λ s stands.
-    let a = passing_moves (λ x. OnCoap (λ now. SendsNext now (Some x))) (λ x. Does (act.Datagram x.to (notice_bytes x k.exposed.state) ∷ [])) notice
+    let a = passing_moves (λ x. OnCoap (λ now. SendsNext now (Some x))) (λ x. Does (act.Datagram x.to (notification_bytes x k.exposed.state) ∷ [])) notice
     k (record k { coap = c }) (record k { coap = c }) (outside n slots) (outside n slots) (outside m slots)
     (refines_coap (λ now. SendsNext now (Some notice)) k c (outside n slots) sends)
-    (refines_act (record k { coap = c }) n m slots (act.Datagram notice.to (notice_bytes notice k.exposed.state)) shows) s stands in (
+    (refines_act (record k { coap = c }) n m slots (act.Datagram notice.to (notification_bytes notice k.exposed.state)) shows) s stands in (
       a.0,
       a.1,
       record {
         seen = a.2.seen;
-        move = subst (λ (thing : ThingState). Passing (λ x. OnCoap (λ now. SendsNext now (Some x))) (λ x. Does (act.Datagram x.to (notice_bytes x thing) ∷ [])) s a.2.seen a.0)
+        move = subst (λ (thing : ThingState). Passing (λ x. OnCoap (λ now. SendsNext now (Some x))) (λ x. Does (act.Datagram x.to (notification_bytes x thing) ∷ [])) s a.2.seen a.0)
             (sym stands.thing) a.2.move;
         shows = a.2.shows;
       },
@@ -50,7 +50,7 @@ pub notifying_begins : (k : Layers) (n : NetSeen) → Notifying k k n n
 notifying_begins k n = record { repeats = λ slots. repeating_begins SendsNotification NothingIsDue k (outside n slots); rest = refl; exchanges = refl }
 
 pub notifying_more : (notice : Notice) (first k : Layers) (c : Server) (n m l : NetSeen) → Notifying first k n m → SendsNext k.moment (Some notice) k.coap c
-    → c.exchanges ≡ k.coap.exchanges → NetShows m l (did (act.Datagram notice.to (notice_bytes notice k.exposed.state)) ∷ [])
+    → c.exchanges ≡ k.coap.exchanges → NetShows m l (did (act.Datagram notice.to (notification_bytes notice k.exposed.state)) ∷ [])
     → Notifying first (record k { coap = c }) n l
 notifying_more notice first k c n m l t sends same shows = record {
   repeats = λ slots. repeating_more SendsNotification NothingIsDue first k (record k { coap = c }) (outside n slots) (outside m slots) (outside l slots) (t.repeats slots)

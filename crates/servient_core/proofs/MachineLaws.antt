@@ -9,7 +9,7 @@ use Rattle.thing_handler.specs.Turns.{HandlerCall, RunTurn, AreNumberedFrom, tur
 use Rattle.thing_handler.proofs.TurnLaws.{numbered_then}
 use Rattle.thing_site.specs.Site.{Placed, events_of}
 use Rattle.thing_core.specs.State.{State as ThingState, Emission, last_of}
-use Rattle.thing_ops.specs.Requests.{PlainRequest}
+use Rattle.thing_ops.specs.Requests.{RequestSeen}
 use Rattle.thing_core.specs.Thing.{Move as ThingMove, Done, Acts, PollsEvent}
 use Rattle.coap_bind.specs.declared.server.Server.{Server}
 use Rattle.coap_bind.specs.Server.{Heard, ignored, answered_at_once, asked, Hears, Answers, with_emitted, SendsNext}
@@ -23,7 +23,7 @@ use Rattle.servient_outside.proofs.NetLaws.{break_count-append}
 use Rattle.servient_core.specs.declared.serving.Served.{Served}
 use Rattle.servient_core.specs.declared.serving.Served.TheVariants as served
 use Rattle.servient_core.specs.Trace.{Sighting, at_network, at_handler, happened_in, calls_in, happening_in}
-use Rattle.servient_core.specs.Machine.{Site, State, Move, OnHttp, OnCoap, OnThing, Does, PerformsByHttp, AnswersDatagram, HearsDatagram, acts_of_reply, SendsIfAny, RepliesToWait, AnswersWait, AnswersLateWait, Delivers, DeliversEach, observed_target, AnswersTaken, TakesNextMessage, ClosesIdle, PollsAndDelivers, SendsNotification, NothingIsDue, SendsNotifications, EndsEvent, notice_bytes, Follows, Step, Run}
+use Rattle.servient_core.specs.Machine.{Site, State, Move, OnHttp, OnCoap, OnThing, Does, PerformsByHttp, AnswersDatagram, HearsDatagram, acts_of_reply, SendsIfAny, RepliesToWait, AnswersWait, AnswersLateWait, Delivers, DeliversEach, observed_target, AnswersTaken, TakesNextMessage, ClosesIdle, PollsAndDelivers, SendsNotification, NothingIsDue, SendsNotifications, EndsEvent, notification_bytes, Follows, Step, Run}
 use Rattle.servient_core.specs.Keeping.{AnswersLateWaits, ClosesAllIdle}
 use Rattle.http_bind.specs.Streams.{HttpReply, Streams, Taken, asks, wants_continue, is_faulty, interrupts, Opened, Ended, Lengthened, Takes, IsDry, Answers as AnswersRequest, Wakes, Continues, Refuses, Closes, oldest_for, oldest_late, IsIdle, NoneIdle}
 use Rattle.servient_core.specs.Serving.{Serves, BreaksAtEnd}
@@ -156,7 +156,7 @@ if_any_keeps c None s seen t stays = stays_keeps s t seen stays.next stays.saw
 if_any_keeps c (Some reply) s seen t does = does_keeps (acts_of_reply c reply) s seen t does
 
 -- a request by HTTP
-by_http_keeps : (site : Site) (q : PlainRequest) (done : Done) (s : State) (seen : List Sighting) (t : State) → PerformsByHttp site q done s seen t → Keeps [] s seen t
+by_http_keeps : (site : Site) (q : RequestSeen) (done : Done) (s : State) (seen : List Sighting) (t : State) → PerformsByHttp site q done s seen t → Keeps [] s seen t
 by_http_keeps site q done s seen t (inl directory) =
     let on = directory.1 in
     becomes_keeps [] s (record s { directory = on.0 }) t [] seen on.3.next on.3.saw (record { hears = refl; unbroken = refl; count = omega arith; numbered = tt })
@@ -211,7 +211,7 @@ notification_keeps : (s : State) (seen : List Sighting) (t : State) → SendsNot
 notification_keeps s seen t is =
     let both = is.1 in
     then_keeps [] [] s both.mid t both.first both.second seen (coap_keeps (λ now. SendsNext now (Some is.0)) s both.first both.mid both.one)
-    (does_keeps (act.Datagram is.0.to (notice_bytes is.0 s.thing) ∷ []) both.mid both.second t both.other) both.whole
+    (does_keeps (act.Datagram is.0.to (notification_bytes is.0 s.thing) ∷ []) both.mid both.second t both.other) both.whole
 
 notifications_keep : (s : State) (seen : List Sighting) (t : State) → SendsNotifications s seen t → Keeps [] s seen t
 notifications_keep s seen t both =

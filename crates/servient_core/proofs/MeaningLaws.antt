@@ -10,7 +10,7 @@ use Rattle.thing_ops.specs.declared.outcome.Outcome.{Outcome}
 use Rattle.thing_ops.specs.declared.outcome.Outcome.TheVariants as outcome
 use Rattle.thing_ops.specs.declared.routing.RouteKind.{RouteKind}
 use Rattle.thing_ops.specs.declared.routing.RouteKind.TheVariants as route
-use Rattle.thing_ops.specs.Requests.{PlainRequest}
+use Rattle.thing_ops.specs.Requests.{RequestSeen}
 use Rattle.thing_ops.specs.Routes.{route_of}
 use Rattle.thing_handler.specs.Turns.{HandlerCall}
 use Rattle.thing_core.specs.State.{State as ThingState, Emission, Invocation}
@@ -20,13 +20,13 @@ use Rattle.thing_core.proofs.DeterminedLaws.{determined}
 use Rattle.directory_requests.specs.declared.server.Entries.{Entries}
 use Rattle.directory_requests.specs.Asked.{is_of_directory}
 use Rattle.directory_requests.specs.Requests.{DirectoryActs}
-use Rattle.coap_opts.specs.Reading.{PlainAsk}
+use Rattle.coap_opts.specs.Reading.{AskSeen}
 use Rattle.coap_bind.specs.declared.pending.PendingReply.{PendingReply}
 use Rattle.servient_outside.specs.declared.net.Act.{Act}
 use Rattle.servient_outside.specs.declared.net.Act.TheVariants as act
 use Rattle.servient_outside.specs.Network.{did}
 use Rattle.servient_core.specs.Trace.{Sighting, at_network, calls_in, call_in}
-use Rattle.servient_core.specs.Machine.{Site, State, Move, Does, Performs, PerformsByHttp, acts_of_reply, SendsIfAny, AnswersWait, AnswersLateWait, Delivers, DeliversEach, ClosesIdle, SendsNotification, NothingIsDue, EndsEvent, notice_bytes}
+use Rattle.servient_core.specs.Machine.{Site, State, Move, Does, Performs, PerformsByHttp, acts_of_reply, SendsIfAny, AnswersWait, AnswersLateWait, Delivers, DeliversEach, ClosesIdle, SendsNotification, NothingIsDue, EndsEvent, notification_bytes}
 use Rattle.servient_core.specs.Promises.{ActsOnNothing}
 use Rattle.servient_core.specs.Meaning.{Message, by_coap, by_http, request_of, asks_directory, PerformsMessage, Writes, ComesTo, IsWritten, HaveOneMeaning, AsksDirectoryAlone, FindsNoDirectory}
 use Rattle.servient_core.proofs.ConnectionLaws.{no_calls}
@@ -85,7 +85,7 @@ notification_quiet : (s t : State) (seen : List Sighting) → SendsNotification 
 notification_quiet s t seen is =
     let w = is.1 in
     then_quiet s w.mid t w.first w.second seen (acts_as s (record s { coap = w.one.0 }) w.mid [] w.first w.one.2 refl refl refl)
-    (does_quiet (act.Datagram is.0.to (notice_bytes is.0 s.thing) ∷ []) w.mid t w.second w.other) w.whole
+    (does_quiet (act.Datagram is.0.to (notification_bytes is.0 s.thing) ∷ []) w.mid t w.second w.other) w.whole
 
 closes_quiet : (s t : State) (seen : List Sighting) → ClosesIdle s seen t → ActsOnNothing s seen t
 closes_quiet s t seen is =
@@ -154,14 +154,14 @@ pub one_meaning : (site : Site) (m n : Message) → HaveOneMeaning site m n
 one_meaning site m n answers done other s t r u seen shown same isnt things one two on_seen on_shown had has =
     let second : Acts site (request_of m) other s.thing (calls_in shown) u.thing =
     subst (λ (x : ThingState). Acts site (request_of m) other x (calls_in shown) u.thing) (sym things)
-    (subst (λ (x : PlainRequest). Acts site x other r.thing (calls_in shown) u.thing) (sym same)
-    (act_of site n other r u shown (subst (λ (x : PlainRequest). is_of_directory (route_of x.path) ≡ false) same isnt) two)) in
+    (subst (λ (x : RequestSeen). Acts site x other r.thing (calls_in shown) u.thing) (sym same)
+    (act_of site n other r u shown (subst (λ (x : RequestSeen). is_of_directory (route_of x.path) ≡ false) same isnt) two)) in
     determined site (request_of m) answers done other s.thing t.thing u.thing (calls_in seen) (calls_in shown)
     (act_of site m done s t seen isnt one) second on_seen on_shown had has
 
 -- ---- the directory
 
-pub asks_directory_alone : (site : Site) (c : ℕ) (q : PlainRequest) → AsksDirectoryAlone site c q
+pub asks_directory_alone : (site : Site) (c : ℕ) (q : RequestSeen) → AsksDirectoryAlone site c q
 asks_directory_alone site c q s t seen is (done, both) = either both.one
   where
     either : PerformsByHttp site q done s both.first both.mid → (o : Outcome) × DirectoryActs q s.moment o s.directory t.directory × (calls_in seen ≡ []) × (t.thing ≡ s.thing)
@@ -189,14 +189,14 @@ no_place path site invocations is = by_form (route_of path) is refl
     by_form form is e = absurd cc
 
 -- so nothing is found there
-nothing_found : (site : Site) (q : PlainRequest) (done : Done) (s : ThingState) (calls : List HandlerCall) (t : ThingState) → is_of_directory (route_of q.path) ≡ true
+nothing_found : (site : Site) (q : RequestSeen) (done : Done) (s : ThingState) (calls : List HandlerCall) (t : ThingState) → is_of_directory (route_of q.path) ≡ true
     → Acts site q done s calls t → (done.outcome ≡ outcome.NotFound) ⊎ (done.outcome ≡ outcome.Memory)
 nothing_found site q done s calls t is (refuses o (inl first) answers) = inl (ap (λ (d : Done). d.outcome) answers.0 ∙ first.1)
 nothing_found site q done s calls t is (refuses o (inr later) answers) = absurd (later.0 (no_place q.path site s.invocations is))
 nothing_found site q done s calls t is (has_no_memory answers) = inr (ap (λ (d : Done). d.outcome) answers.0)
 nothing_found site q done s calls t is (performs act inputs none asked given move) = absurd (none.0 (no_place q.path site s.invocations is))
 
-pub finds_no_directory : (site : Site) (from : Endpoint) (ask : PlainAsk) (request : PendingReply) → FindsNoDirectory site from ask request
+pub finds_no_directory : (site : Site) (from : Endpoint) (ask : AskSeen) (request : PendingReply) → FindsNoDirectory site from ask request
 finds_no_directory site from ask request done s t seen is both =
     let found = nothing_found site ask.request done s.thing both.one.1 both.one.0 is both.one.2 in
     let quiet = rest_quiet site (by_coap from ask request) done both.mid t both.second both.other in

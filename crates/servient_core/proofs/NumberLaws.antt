@@ -5,7 +5,7 @@ use Rattle.std.specs.Prelude.{Some, None, Result, Ok, Err}
 use Rattle.servient_base.specs.Moves.{Becomes, Stays, Then}
 use Rattle.wot_json.specs.Tree.{Json}
 use Rattle.thing_ops.specs.declared.outcome.Outcome.{Outcome}
-use Rattle.thing_ops.specs.Requests.{PlainRequest}
+use Rattle.thing_ops.specs.Requests.{RequestSeen}
 use Rattle.thing_handler.specs.declared.handler.CallKind.{CallKind}
 use Rattle.thing_handler.specs.declared.handler.CallKind.TheVariants as call
 use Rattle.thing_handler.specs.declared.handler.Answer.TheVariants as answer
@@ -13,8 +13,8 @@ use Rattle.thing_handler.specs.Turns.{RunTurn, HandlerCall, turns_in, AreNumbere
 use Rattle.thing_handler.proofs.TurnLaws.{numbered_then}
 use Rattle.thing_site.specs.Site.{Placed, Site}
 use Rattle.thing_core.specs.State.{State, Status, running, completed, Emission}
-use Rattle.thing_site.specs.declared.place.Act.{Act}
-use Rattle.thing_site.specs.declared.place.Act.TheVariants.{Describes as describes, ReadsAll as reads_all, WritesMany as writes_many, Reads as reads, Writes as writes, Invokes as invokes, Queries as queries, Cancels as cancels, ReadsEvent as reads_event, Waits as waits}
+use Rattle.thing_site.specs.declared.place.ThingAct.{ThingAct}
+use Rattle.thing_site.specs.declared.place.ThingAct.TheVariants.{Describes as describes, ReadsAll as reads_all, WritesMany as writes_many, Reads as reads, Writes as writes, Invokes as invokes, Queries as queries, Cancels as cancels, ReadsEvent as reads_event, Waits as waits}
 use Rattle.thing_site.specs.Refusals.{Input}
 use Rattle.thing_core.specs.Thing.{Done, Called, no_number, no_memory, gives, failure_of, ReadsValue, with_value, ReadsEach, WritesEach, IfDone, SeesWritten, emissions_of_write, Stops, Calls, IsInvoked, IsQueried, Queries, IsCancelled, Cancels, PollsEvent, Performs, Acts, refuses, has_no_memory, performs, readable}
 use Rattle.thing_core.proofs.ReadLaws.{AfterValue}
@@ -168,7 +168,7 @@ cancels_count p id (completed output) done s calls t r = counts_quiet s _ t call
 
 -- ---- acts and polls
 
-performs_count : (act : Act) (q : PlainRequest) (inputs : List Input) (done : Done) (s : State) (calls : List HandlerCall) (t : State) → Performs act q inputs done s calls t
+performs_count : (act : ThingAct) (q : RequestSeen) (inputs : List Input) (done : Done) (s : State) (calls : List HandlerCall) (t : State) → Performs act q inputs done s calls t
     → Counts s calls t
 performs_count (describes thing) q inputs done s calls t r = counts_stays s t calls r.1
 performs_count (reads_all thing) q inputs done s calls t r = each_counts (readable thing) [] done s calls t r
@@ -184,7 +184,7 @@ performs_count (cancels p id) q inputs done s calls t r = cancels_count p id r.0
 performs_count (reads_event p) q inputs done s calls t r = counts_stays s t calls r.1
 performs_count (waits p) q inputs done s calls t r = counts_stays s t calls r.1
 
-pub acts_count : (site : Site) (q : PlainRequest) (done : Done) (s : State) (calls : List HandlerCall) (t : State) → Acts site q done s calls t → Counts s calls t
+pub acts_count : (site : Site) (q : RequestSeen) (done : Done) (s : State) (calls : List HandlerCall) (t : State) → Acts site q done s calls t → Counts s calls t
 acts_count site q done s calls t (refuses o refused answers) = counts_stays s t calls answers.1
 acts_count site q done s calls t (has_no_memory answers) = counts_stays s t calls answers.1
 acts_count site q done s calls t (performs act inputs free asked given does) = performs_count act q inputs done s calls t does

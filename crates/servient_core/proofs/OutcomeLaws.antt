@@ -12,13 +12,13 @@ use Rattle.thing_ops.specs.declared.conditions.Conditions.{Conditions}
 use Rattle.thing_ops.specs.Conditions.{fails, has}
 use Rattle.thing_ops.specs.declared.outcome.Outcome.{Outcome}
 use Rattle.thing_ops.specs.declared.outcome.Outcome.TheVariants as outcome
-use Rattle.thing_ops.specs.Requests.{PlainRequest}
+use Rattle.thing_ops.specs.Requests.{RequestSeen}
 use Rattle.thing_handler.specs.declared.handler.Answer.TheVariants as answer
 use Rattle.thing_handler.specs.Turns.{HandlerCall}
 use Rattle.thing_site.specs.Site.{Placed, Site}
 use Rattle.thing_core.specs.State.{State, Status, running, completed, Emission, status_text, last_of, version_of}
-use Rattle.thing_site.specs.declared.place.Act.{Act}
-use Rattle.thing_site.specs.declared.place.Act.TheVariants.{Describes as describes, ReadsAll as reads_all, WritesMany as writes_many, Reads as reads, Writes as writes, Invokes as invokes, Queries as queries, Cancels as cancels, ReadsEvent as reads_event, Waits as waits}
+use Rattle.thing_site.specs.declared.place.ThingAct.{ThingAct}
+use Rattle.thing_site.specs.declared.place.ThingAct.TheVariants.{Describes as describes, ReadsAll as reads_all, WritesMany as writes_many, Reads as reads, Writes as writes, Invokes as invokes, Queries as queries, Cancels as cancels, ReadsEvent as reads_event, Waits as waits}
 use Rattle.thing_site.specs.Refusals.{Input, Refusal, nothing_there, verb_not_taken, answer_not_acceptable, format_not_taken, body_not_as_wanted, value_too_large, refused_by_schema, condition_failed, no_invocation_left, IsFirst}
 use Rattle.thing_core.specs.Refusals.{Asked, refusals, Stands, IsAnsweredWith}
 use Rattle.thing_core.specs.Thing.{Done, only, Called, no_number, no_memory, gives, failure_of, GivesValue, ReadsValue, ReadsEach, WritesEach, IfDone, SeesWritten, emissions_of_write, Stops, IsInvoked, place_of_invocation, IsQueried, Queries, IsCancelled, Cancels, event_outcome, outcome_of_read, read_outcome, readable, Performs, Acts, refuses, has_no_memory, performs}
@@ -235,7 +235,7 @@ event_sendable : (last : Option (List ℕ)) → IsSendable (event_outcome last)
 event_sendable None = (refl, tt)
 event_sendable (Some text) = (refl, tt)
 
-performs_sendable : (act : Act) (q : PlainRequest) (inputs : List Input) (done : Done) (s : State) (seen : List HandlerCall) (t : State) → ShortIfInvoked act q.path
+performs_sendable : (act : ThingAct) (q : RequestSeen) (inputs : List Input) (done : Done) (s : State) (seen : List HandlerCall) (t : State) → ShortIfInvoked act q.path
     → s.next_invocation < 2 ^ 64 → Performs act q inputs done s seen t → IsSendable done.outcome
 performs_sendable (describes thing) q inputs done s seen t short few r = outcome_is done _ r.0 (refl, tt)
 performs_sendable (reads_all thing) q inputs done s seen t short few r = each_sendable (readable thing) [] done s seen t r
@@ -251,7 +251,7 @@ performs_sendable (reads_event p) q inputs done s seen t short few r = outcome_i
 performs_sendable (waits p) q inputs done s seen t short few r = outcome_is done _ r.0 (refl, tt)
 
 -- The outcome of a request can be sent by CoAP.
-pub acts_sendable : (site : Site) (q : PlainRequest) (done : Done) (s : State) (seen : List HandlerCall) (t : State) → All (λ segment. length segment ≤ 255) q.path
+pub acts_sendable : (site : Site) (q : RequestSeen) (done : Done) (s : State) (seen : List HandlerCall) (t : State) → All (λ segment. length segment ≤ 255) q.path
     → s.next_invocation < 2 ^ 64 → Acts site q done s seen t → IsSendable done.outcome
 acts_sendable site q done s seen t short few (refuses o refused answers) =
     outcome_is done o answers.0 (first_sendable (λ r. Stands r (record { site = site; state = s; request = q })) (record { site = site; state = s; request = q }) refusals o refused)

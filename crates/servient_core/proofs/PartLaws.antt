@@ -15,11 +15,11 @@ use Rattle.thing_core.specs.Kept.{Kept}
 use Rattle.thing_core.specs.Performing.{MakesAct}
 use Rattle.thing_core.proofs.ThingLaws.{site_stays}
 use Rattle.thing_ops.specs.declared.outcome.Outcome.{Outcome}
-use Rattle.thing_ops.specs.Requests.{PlainRequest}
+use Rattle.thing_ops.specs.Requests.{RequestSeen}
 use Rattle.directory_requests.specs.declared.server.Entries.{Entries}
 use Rattle.directory_requests.specs.Requests.{standing_at, ActsOnStanding, DirectoryActs}
 use Rattle.directory_requests.proofs.StandingLaws.{same_later}
-use Rattle.coap_opts.specs.Reading.{PlainAsk}
+use Rattle.coap_opts.specs.Reading.{AskSeen}
 use Rattle.coap_bind.specs.declared.pending.PendingReply.{PendingReply}
 use Rattle.coap_bind.specs.declared.server.Server.{Server}
 use Rattle.coap_bind.specs.Server.{Heard, ignored, answered_at_once, asked, Hears, Answers}
@@ -112,7 +112,7 @@ refines_thing M k e net before after made = λ s stands. (
 )
 
 -- the directory is asked
-refines_directory : (q : PlainRequest) (done : Done) (k : Layers) (d : Entries) (w : Outside) → DirectoryActs q k.moment done.outcome k.directory d → done.emissions ≡ []
+refines_directory : (q : RequestSeen) (done : Done) (k : Layers) (d : Entries) (w : Outside) → DirectoryActs q k.moment done.outcome k.directory d → done.emissions ≡ []
     → Refines StandsFor Shows (PerformsOnDirectory q done) k (record k { directory = d }) w w
 refines_directory q done k d w acts quiet = λ s stands. (
   record s { directory = d },
@@ -131,7 +131,7 @@ refines_directory q done k d w acts quiet = λ s stands. (
 )
 
 -- a request by HTTP is performed, by the directory or by the Things
-pub refines_by_http : (site : Site) (q : PlainRequest) (o : Outcome) (k : Layers) (e : Kept) (d : Entries) (net : NetSeen) (before after : List Seen)
+pub refines_by_http : (site : Site) (q : RequestSeen) (o : Outcome) (k : Layers) (e : Kept) (d : Entries) (net : NetSeen) (before after : List Seen)
     (made : MakesByHttp k.exposed e k.directory d k.moment q o before after) → k.exposed.site ≡ site
     → Refines StandsFor Shows (PerformsByHttp site q made.done) k (record k { exposed = e; directory = d }) (outside net before) (outside net after)
 refines_by_http site q o k e d net before after made at_site = elim made.move as (λ _. Refines StandsFor Shows (PerformsByHttp site q made.done) k (record k { exposed = e; directory = d }) (outside net before) (outside net after)) [
@@ -192,7 +192,7 @@ heard_at_once site from bytes sent k c n m slots h short hears is shows =
     (refines_act (record k { coap = c }) n m slots (act.Datagram from sent) shows))
 
 -- a request is answered
-answers_ask : (site : Site) (from : Endpoint) (ask : PlainAsk) (request : PendingReply) (sent : List ℕ) (k : Layers) (c : Server) (done : Done) (n m : NetSeen) (slots : List Seen)
+answers_ask : (site : Site) (from : Endpoint) (ask : AskSeen) (request : PendingReply) (sent : List ℕ) (k : Layers) (c : Server) (done : Done) (n m : NetSeen) (slots : List Seen)
     → Answers request done.outcome (observed_target site k.exposed.state ask) sent k.coap c → NetShows n m (did (act.Datagram from sent) ∷ [])
     → Refines StandsFor Shows (AnswersAsk site from ask request done) k (record k { coap = c }) (outside n slots) (outside m slots)
 answers_ask site from ask request sent k c done n m slots answers shows = λ s stands.
@@ -211,7 +211,7 @@ answers_ask site from ask request sent k c done n m slots answers shows = λ s s
     )
 
 -- a request is performed and answered, and its emissions are delivered
-responds_asked : (site : Site) (from : Endpoint) (ask : PlainAsk) (request : PendingReply) (sent : List ℕ) (k l : Layers) (e : Kept) (c : Server) (done : Done) (n m : NetSeen) (before after : List Seen) (v : Outside)
+responds_asked : (site : Site) (from : Endpoint) (ask : AskSeen) (request : PendingReply) (sent : List ℕ) (k l : Layers) (e : Kept) (c : Server) (done : Done) (n m : NetSeen) (before after : List Seen) (v : Outside)
     → Makes RackShows (Acts site ask.request done) k.exposed.state e.state before after
     → Answers request done.outcome (observed_target site e.state ask) sent k.coap c → NetShows n m (did (act.Datagram from sent) ∷ [])
     → Refines StandsFor Shows (DeliversEach done.emissions) (record k { exposed = e; coap = c }) l (outside m after) v
@@ -223,7 +223,7 @@ responds_asked site from ask request sent k l e c done n m before after v made a
     (then_moves (AnswersAsk site from ask request done) (DeliversEach done.emissions) (record k { exposed = e }) (record k { exposed = e; coap = c }) l (outside n after) (outside m after) v
     (answers_ask site from ask request sent (record k { exposed = e }) c done n m after answers shows) delivers)
 
-pub heard_asked : (site : Site) (from : Endpoint) (bytes sent : List ℕ) (ask : PlainAsk) (request : PendingReply) (o : Outcome) (k l : Layers) (e : Kept) (b c : Server)
+pub heard_asked : (site : Site) (from : Endpoint) (bytes sent : List ℕ) (ask : AskSeen) (request : PendingReply) (o : Outcome) (k l : Layers) (e : Kept) (b c : Server)
     (n m : NetSeen) (before after : List Seen) (v : Outside) (h : Heard) (made : MakesAct k.exposed e ask.request o before after) → length bytes ≤ LONGEST_DATAGRAM → Hears from bytes k.moment h k.coap b
     → h ≡ asked ask request → k.exposed.site ≡ site → Answers request o (observed_target e.site e.state ask) sent b c → NetShows n m (did (act.Datagram from sent) ∷ [])
     → Refines StandsFor Shows (Each Delivers e.pending) (record k { exposed = e; coap = c }) l (outside m after) v

@@ -13,7 +13,7 @@ use Rattle.coap_msg.specs.Empty.{empty_reply, rejection_of}
 use Rattle.coap_opts.specs.declared.fault.AskFault.{AskFault}
 use Rattle.coap_opts.specs.declared.fault.AskFault.TheVariants as fault
 use Rattle.coap_opts.specs.Table.{may_stand}
-use Rattle.coap_opts.specs.Reading.{PlainAsk, fault_of, and_then_these, faults_after, faults_of, values_under, asked as what_is_asked}
+use Rattle.coap_opts.specs.Reading.{AskSeen, fault_of, and_then_these, faults_after, faults_of, values_under, asked as what_is_asked}
 use Rattle.coap_bind.specs.declared.pending.PendingReply.{PendingReply}
 use Rattle.coap_bind.specs.declared.server.Server.{Server}
 use Rattle.coap_bind.specs.Server.{Heard, ignored, answered_at_once, asked, replied_at_once, duplicate_reply, pending_of, pending_joined, with_whole_body, Settles, malformed, no_request, duplicate, full, Reads, replied, bad_option_ignored, gives_links, asks, asks_whole, Hears, settled, admitted}
@@ -91,6 +91,6 @@ hears_short from bytes now heard s t (settled settles) = settles_short from byte
 hears_short from bytes now heard s t (admitted m slot u met reads) = reads_short from now m slot heard u t reads
 
 -- A request that comes by a datagram has a path of segments of at most 255 bytes.
-pub asked_short : (from : Endpoint) (bytes : List ℕ) (now : ℕ) (heard : Heard) (s t : Server) (ask : PlainAsk) (request : PendingReply)
+pub asked_short : (from : Endpoint) (bytes : List ℕ) (now : ℕ) (heard : Heard) (s t : Server) (ask : AskSeen) (request : PendingReply)
     → Hears from bytes now heard s t → heard ≡ asked ask request → All (λ segment. length segment ≤ 255) ask.request.path
 asked_short from bytes now heard s t ask request hears is = subst (λ (x : Heard). IsShortHeard x) is (hears_short from bytes now heard s t hears)

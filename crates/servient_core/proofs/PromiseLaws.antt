@@ -10,7 +10,7 @@ use Rattle.coap_msg.specs.Requests.{request_type}
 use Rattle.coap_msg.proofs.Messages.{at_most_one_message}
 use Rattle.coap_msg.proofs.FaultLaws.{no_fault_of_message}
 use Rattle.coap_exchange.specs.Table.{at_moment, duplicated_exchange}
-use Rattle.coap_opts.specs.Reading.{PlainAsk}
+use Rattle.coap_opts.specs.Reading.{AskSeen}
 use Rattle.coap_bind.specs.declared.pending.PendingReply.{PendingReply}
 use Rattle.coap_bind.specs.declared.server.Server.{Server}
 use Rattle.coap_bind.specs.Server.{Heard, ignored, answered_at_once, asked, arrival, is_request, with_id_used, malformed, no_request, duplicate, full, Hears, settled, admitted}
@@ -28,7 +28,7 @@ acts_as s u t shown seen b same kept none =
 
 -- a message that asks for nothing acts on nothing
 unasked_acts : (site : Site) (from : Endpoint) (h : Heard) (s m t : State) (first seen second : List Sighting) → m.thing ≡ s.thing → m.directory ≡ s.directory → first ≡ []
-    → seen ≡ first ++ second → ((ask : PlainAsk) (request : PendingReply) → ¬ (h ≡ asked ask request)) → AnswersDatagram site from h m second t → ActsOnNothing s seen t
+    → seen ≡ first ++ second → ((ask : AskSeen) (request : PendingReply) → ¬ (h ≡ asked ask request)) → AnswersDatagram site from h m second t → ActsOnNothing s seen t
 unasked_acts site from ignored s m t first seen second same kept none whole never stays =
     let all : seen ≡ second = whole ∙ ap (λ (x : List Sighting). x ++ second) none in
     record { calls = ap calls_in (all ∙ stays.saw); thing = ap (λ (x : State). x.thing) stays.next ∙ same; directory = ap (λ (x : State). x.directory) stays.next ∙ kept }

@@ -12,8 +12,8 @@ use Rattle.coap_exchange.specs.declared.met.Met.{Met}
 use Rattle.coap_exchange.specs.declared.met.Met.TheVariants.{Fresh, Repeat, Full}
 use Rattle.coap_bind.specs.declared.pending.PendingReply.{PendingReply}
 use Rattle.coap_bind.specs.declared.server.Server.{Server}
-use Rattle.coap_bind.specs.Server.{start as nothing_came, Heard, ignored, answered_at_once, asked, arrival, is_request, with_watchers, IsMet, malformed, no_request, duplicate, full, Hears, settled, admitted, Answers, SendsNext}
-use Rattle.coap_opts.specs.Reading.{PlainAsk}
+use Rattle.coap_bind.specs.Server.{start as nothing_came, Heard, ignored, answered_at_once, asked, arrival, is_request, with_observers, IsMet, malformed, no_request, duplicate, full, Hears, settled, admitted, Answers, SendsNext}
+use Rattle.coap_opts.specs.Reading.{AskSeen}
 use Rattle.coap_observe.specs.declared.notice.Notice.{Notice}
 use Rattle.coap_bind.specs.Laws.{AreArrivals, IsOpen, Did, nothing, heard_of, answered, emitted, sent, linked}
 use Rattle.coap_bind.specs.Writing.{head_in}
@@ -24,7 +24,7 @@ use Rattle.coap_bind.proofs.DuplicateLaws.{ready}
 use Rattle.coap_bind.proofs.MomentLaws.{replies_moment, hears_moment}
 use Rattle.http_bind.specs.Streams.{HttpReply, Streams, Taken, asks, wants_continue, is_faulty, interrupts, oldest_for, oldest_late, IsDry, NoneIdle}
 use Rattle.thing_ops.specs.declared.outcome.Outcome.{Outcome}
-use Rattle.thing_ops.specs.Requests.{PlainRequest}
+use Rattle.thing_ops.specs.Requests.{RequestSeen}
 use Rattle.thing_core.specs.Thing.{Done}
 use Rattle.thing_site.specs.Site.{Placed, events_of}
 use Rattle.thing_core.specs.State.{State as ThingState, Emission, last_of}
@@ -87,7 +87,7 @@ answers_holds : (k : ℕ) (history : List Arrival) (now : ℕ) (request : Pendin
 answers_holds k history now request o target bytes s t seen open_ask on h =
     becomes k history now (record s { coap = on.0 }) t on.2.next (record {
       did = (h.did.0, answered history s.coap on.0 request o target bytes h.did.1 open_ask on.1);
-      early = omega (arith, replies_moment _ (head_in request) request.slot bytes (ready request o on.1.watchers s.coap) on.0 on.1.replies, h.early);
+      early = omega (arith, replies_moment _ (head_in request) request.slot bytes (ready request o on.1.observers s.coap) on.0 on.1.replies, h.early);
       at = h.at;
     })
 
@@ -132,7 +132,7 @@ delivers_each_holds k history now emissions s t seen each h =
 -- ---- answers
 
 responds_holds : (k : ℕ) (history : List Arrival) (now : ℕ) (site : Site) (from : Endpoint) (heard : Heard) (s t : State) (seen : List Sighting) → AnswersDatagram site from heard s seen t
-    → ((ask : PlainAsk) (request : PendingReply) → heard ≡ asked ask request → IsOpen request s.coap) → Holds k history now s → Holds k history now t
+    → ((ask : AskSeen) (request : PendingReply) → heard ≡ asked ask request → IsOpen request s.coap) → Holds k history now s → Holds k history now t
 responds_holds k history now site from ignored s t seen stays opens h = becomes k history now s t stays.next h
 responds_holds k history now site from (answered_at_once bytes) s t seen does opens h = becomes k history now s t does.next h
 responds_holds k history now site from (asked ask request) s t seen is opens h =
@@ -150,7 +150,7 @@ if_any_holds : (k : ℕ) (history : List Arrival) (now c : ℕ) (reply : Option 
 if_any_holds k history now c None s t seen stays h = becomes k history now s t stays.next h
 if_any_holds k history now c (Some reply) s t seen does h = becomes k history now s t does.next h
 
-by_http_holds : (k : ℕ) (history : List Arrival) (now : ℕ) (site : Site) (q : PlainRequest) (done : Done) (s t : State) (seen : List Sighting) → PerformsByHttp site q done s seen t
+by_http_holds : (k : ℕ) (history : List Arrival) (now : ℕ) (site : Site) (q : RequestSeen) (done : Done) (s t : State) (seen : List Sighting) → PerformsByHttp site q done s seen t
     → Holds k history now s → Holds k history now t
 by_http_holds k history now site q done s t seen (inl directory) h =
     let next = directory.1.3.next in
@@ -198,7 +198,7 @@ sends_holds k history now n s t seen on h =
       did = (h.did.0, sent history s.coap on.0 s.moment n h.did.1 on.1);
       early = omega (
         arith,
-        ap (λ (x : Table). x.moment) (ap (λ (x : Server). x.exchanges) on.1.after ∙ sent_stays n (with_watchers on.1.watchers s.coap)),
+        ap (λ (x : Table). x.moment) (ap (λ (x : Server). x.exchanges) on.1.after ∙ sent_stays n (with_observers on.1.observers s.coap)),
         h.early,
       );
       at = h.at;

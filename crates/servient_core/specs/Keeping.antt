@@ -3,7 +3,7 @@ use Rattle.std.specs.Prelude.{◌≡◌, ◌⊎◌, ◌≤◌, ℕ, List, [], �
 use Rattle.servient_base.specs.Moves.{Becomes, Until, Makes, Refines}
 use Rattle.thing_ops.specs.declared.outcome.Outcome.{Outcome}
 use Rattle.thing_ops.specs.Outcomes.{HasCode}
-use Rattle.thing_ops.specs.Requests.{PlainRequest}
+use Rattle.thing_ops.specs.Requests.{RequestSeen}
 use Rattle.thing_ops.specs.Routes.{route_of}
 use Rattle.thing_handler.specs.Handler.{Seen}
 use Rattle.thing_handler.specs.Turns.{RackShows}
@@ -54,7 +54,7 @@ pub record DoesMove (move : Move) (old new : Layers) (before after : Outside) : 
 
 -- The effect of a request by HTTP at a moment: on the directory, of which no handler knows and which emits nothing, or
 -- on the Things; their emissions wait to be handed out.
-pub record MakesByHttp (old new : Kept) (d t : Entries) (now : ℕ) (q : PlainRequest) (o : Outcome) (before after : List Seen) : Type 0 where
+pub record MakesByHttp (old new : Kept) (d t : Entries) (now : ℕ) (q : RequestSeen) (o : Outcome) (before after : List Seen) : Type 0 where
   pub done : Done
   pub outcome : done.outcome ≡ o
   pub pending : new.pending ≡ map (λ e. e.target) done.emissions

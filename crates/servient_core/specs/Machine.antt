@@ -10,7 +10,7 @@ use Rattle.servient_base.specs.Moves.{Becomes, Stays, Then, Passing, Each, Until
 use Rattle.coap_msg.specs.declared.constants.TheConstants.{LONGEST_DATAGRAM}
 use Rattle.coap_msg.specs.declared.endpoint.Endpoint.{Endpoint}
 use Rattle.coap_msg.specs.Grammar.{spelling}
-use Rattle.thing_ops.specs.Requests.{PlainRequest}
+use Rattle.thing_ops.specs.Requests.{RequestSeen}
 use Rattle.thing_ops.specs.Routes.{route_of}
 use Rattle.thing_handler.specs.Turns.{HandlerCall}
 use Rattle.thing_site.specs.Site.{Placed, Site as Things, events_of}
@@ -21,7 +21,7 @@ use Rattle.directory_requests.specs.Asked.{is_of_directory}
 use Rattle.directory_requests.specs.declared.server.Entries.{Entries}
 use Rattle.directory_requests.specs.Requests.{no_entries, DirectoryActs}
 use Rattle.coap_observe.specs.declared.notice.Notice.{Notice}
-use Rattle.coap_opts.specs.Reading.{PlainAsk}
+use Rattle.coap_opts.specs.Reading.{AskSeen}
 use Rattle.coap_bind.specs.declared.pending.PendingReply.{PendingReply}
 use Rattle.coap_bind.specs.declared.server.Server.{Server}
 use Rattle.servient_core.specs.declared.capacity.TheConstants.{MOST_WATCHERS}
@@ -101,28 +101,28 @@ abbrev pub AnswersWait : ℕ → Move
 AnswersWait target before seen after = (connection : ℕ) × (oldest_for target before.http.waits ≡ Some connection) × RepliesToWait connection (last_of target before.thing.last) before seen after
 
 -- the observers of a target are to be notified
-abbrev pub MarksWatchers : ℕ → Move
-MarksWatchers target = OnCoap (λ now before after. after ≡ with_emitted target before)
+abbrev pub MarksObservers : ℕ → Move
+MarksObservers target = OnCoap (λ now before after. after ≡ with_emitted target before)
 
 -- A target has a new value: all that wait for it get it, the oldest first, and its observers are to be notified.
 abbrev pub Delivers : ℕ → Move
-Delivers target = Then (Until (AnswersWait target) (λ state. oldest_for target state.http.waits ≡ None)) (MarksWatchers target)
+Delivers target = Then (Until (AnswersWait target) (λ state. oldest_for target state.http.waits ≡ None)) (MarksObservers target)
 
 -- emissions are delivered, in order
 abbrev pub DeliversEach : List Emission → Move
 DeliversEach emissions = Each Delivers (map (λ emission. emission.target) emissions)
 
 -- a request is performed, whichever way it came
-abbrev pub Performs : Site → PlainRequest → Done → Move
+abbrev pub Performs : Site → RequestSeen → Done → Move
 Performs site request done = OnThing (Acts site request done)
 
 -- one to the directory (WoT Discovery, "Things API", in outline), which calls no handler and emits nothing
-abbrev pub PerformsOnDirectory : PlainRequest → Done → Move
+abbrev pub PerformsOnDirectory : RequestSeen → Done → Move
 PerformsOnDirectory request done before seen after =
     (changed : Entries) × DirectoryActs request before.moment done.outcome before.directory changed × (done.emissions ≡ []) × Becomes (record before { directory = changed }) [] seen after
 
 -- The directory is reached by HTTP alone: by its paths, which lead to no Thing.
-abbrev pub PerformsByHttp : Site → PlainRequest → Done → Move
+abbrev pub PerformsByHttp : Site → RequestSeen → Done → Move
 PerformsByHttp site request done before seen after =
     ((is_of_directory (route_of request.path) ≡ true) × PerformsOnDirectory request done before seen after)
     ⊎ ((is_of_directory (route_of request.path) ≡ false) × Performs site request done before seen after)
@@ -130,11 +130,11 @@ PerformsByHttp site request done before seen after =
 -- ---- CoAP (RFC 7252): a datagram is heard, and where it asks for something it is answered, once
 
 -- the target that a request with Observe may observe: that of its path, if it is the path of one
-abbrev pub observed_target : Site → ThingState → PlainAsk → Option ℕ
+abbrev pub observed_target : Site → ThingState → AskSeen → Option ℕ
 observed_target site thing ask = elim ask.observe as (λ _. Option ℕ) [ None ↦ None | Some n ↦ target_of ask.request.path site thing.invocations ]
 
 -- a request is answered by this outcome
-abbrev pub AnswersAsk : Site → Endpoint → PlainAsk → PendingReply → Done → Move
+abbrev pub AnswersAsk : Site → Endpoint → AskSeen → PendingReply → Done → Move
 AnswersAsk site from ask pending done before =
     Passing (λ bytes. OnCoap (λ now. Answers pending done.outcome (observed_target site before.thing ask) bytes)) (λ bytes. Does (act.Datagram from bytes ∷ [])) before
 
@@ -182,13 +182,13 @@ HearsPiece site connection bytes = Then (OnHttp (Lengthened connection bytes)) (
 -- ---- the end of each event
 
 -- the bytes of a notification, which says the last value of its target
-abbrev pub notice_bytes : Notice → ThingState → List ℕ
-notice_bytes notice thing = spelling (notification notice (unwrap_or (last_of notice.target thing.last) []))
+abbrev pub notification_bytes : Notice → ThingState → List ℕ
+notification_bytes notice thing = spelling (notification notice (unwrap_or (last_of notice.target thing.last) []))
 
 -- the next notification to an observer is sent
 abbrev pub SendsNotification : Move
 SendsNotification before =
-    Passing (λ notice. OnCoap (λ now. SendsNext now (Some notice))) (λ notice. Does (act.Datagram notice.to (notice_bytes notice before.thing) ∷ [])) before
+    Passing (λ notice. OnCoap (λ now. SendsNext now (Some notice))) (λ notice. Does (act.Datagram notice.to (notification_bytes notice before.thing) ∷ [])) before
 
 -- nothing is to be sent
 abbrev pub NothingIsDue : State → Type 0

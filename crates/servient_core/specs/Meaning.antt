@@ -4,14 +4,14 @@ use Rattle.servient_base.specs.Moves.{Then}
 use Rattle.coap_msg.specs.declared.endpoint.Endpoint.{Endpoint}
 use Rattle.thing_ops.specs.declared.outcome.Outcome.{Outcome}
 use Rattle.thing_ops.specs.declared.outcome.Outcome.TheVariants as outcome
-use Rattle.thing_ops.specs.Requests.{PlainRequest}
+use Rattle.thing_ops.specs.Requests.{RequestSeen}
 use Rattle.thing_ops.specs.Routes.{route_of}
 use Rattle.thing_handler.specs.declared.handler.Answer.{Answer}
 use Rattle.thing_core.specs.Thing.{Done}
 use Rattle.thing_core.specs.Determined.{AreAnsweredBy, HadMemory}
 use Rattle.directory_requests.specs.Asked.{is_of_directory}
 use Rattle.directory_requests.specs.Requests.{DirectoryActs}
-use Rattle.coap_opts.specs.Reading.{PlainAsk}
+use Rattle.coap_opts.specs.Reading.{AskSeen}
 use Rattle.coap_bind.specs.declared.pending.PendingReply.{PendingReply}
 use Rattle.coap_bind.specs.Server.{asked}
 use Rattle.http_bind.specs.Streams.{asks}
@@ -22,11 +22,11 @@ use Rattle.servient_core.specs.Machine.{Site, State, Move, Performs, PerformsByH
 -- HTTP on a connection. A CoAP message for the links is none, since it is answered at once and asks for nothing: so
 -- what follows isn't said of that path.
 pub data Message : Type 0 where
-  by_coap : Endpoint → PlainAsk → PendingReply → Message
-  by_http : ℕ → PlainRequest → Message
+  by_coap : Endpoint → AskSeen → PendingReply → Message
+  by_http : ℕ → RequestSeen → Message
 
 -- the request as which it was read
-abbrev pub request_of : Message → PlainRequest
+abbrev pub request_of : Message → RequestSeen
 request_of (by_coap from ask request) = ask.request
 request_of (by_http c q) = q
 
@@ -72,13 +72,13 @@ HaveOneMeaning site m n =
 
 -- A request to the directory that comes by HTTP changes the directory as that does it at the machine's moment, calls no
 -- handler and leaves the Things as they are.
-abbrev pub AsksDirectoryAlone : Site → ℕ → PlainRequest → Type 0
+abbrev pub AsksDirectoryAlone : Site → ℕ → RequestSeen → Type 0
 AsksDirectoryAlone site c q =
     (s t : State) (seen : List Sighting) → asks_directory (by_http c q) ≡ true → Handled site (by_http c q) s seen t
     → (o : Outcome) × DirectoryActs q s.moment o s.directory t.directory × (calls_in seen ≡ []) × (t.thing ≡ s.thing)
 
 -- One that comes by CoAP finds nothing there, and leaves the directory as it is.
-abbrev pub FindsNoDirectory : Site → Endpoint → PlainAsk → PendingReply → Type 0
+abbrev pub FindsNoDirectory : Site → Endpoint → AskSeen → PendingReply → Type 0
 FindsNoDirectory site from ask request =
     (done : Done) (s t : State) (seen : List Sighting) → asks_directory (by_coap from ask request) ≡ true → ComesTo site (by_coap from ask request) done s seen t
     → ((done.outcome ≡ outcome.NotFound) ⊎ (done.outcome ≡ outcome.Memory)) × (t.directory ≡ s.directory)

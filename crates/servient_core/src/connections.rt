@@ -115,7 +115,7 @@ impl Layers {
         match self.http.next(c, &mut rooms.message) {
             HttpNext::Idle => false,
             HttpNext::Continue => {
-                rooms.reply.go_on(&mut self.http, net, c);
+                rooms.reply.send_continue(&mut self.http, net, c);
                 true
             }
             HttpNext::Refuse(status) => {
@@ -192,7 +192,7 @@ impl ReplyRoom {
     }
 
     /// Sends the 100 reply, after which the connection stays open.
-    fn go_on<N: Net>(&mut self, http: &mut HttpBind, net: &mut N, c: u32)
+    fn send_continue<N: Net>(&mut self, http: &mut HttpBind, net: &mut N, c: u32)
         requires { c < 64 }
         ensures continued { SendsContinue c http.old http.new (N.seen net.old) (N.seen net.new) }
         ensures left { LeavesNoMore http.old http.new }

@@ -5,7 +5,7 @@ ghost use Rattle.std.specs.Prelude.{◌≡◌, ◌≤◌, ◌∷◌, []};
 ghost use Rattle.coap_observe.specs.Watching.{IsSendable};
 ghost use Rattle.servient_outside.specs.Network.{NetShows, did};
 ghost use Rattle.servient_outside.specs.declared.net.Act.TheVariants as act;
-ghost use Rattle.servient_core.specs.Machine.{SendsNotifications, EndsEvent, notice_bytes};
+ghost use Rattle.servient_core.specs.Machine.{SendsNotifications, EndsEvent, notification_bytes};
 ghost use Rattle.servient_core.specs.Serving.{IsReady};
 ghost use Rattle.servient_core.specs.Keeping.{DoesQuietly, LeavesNoMore, AnswersLateWaits, ClosesAllIdle};
 
@@ -42,7 +42,7 @@ impl Layers {
     /// Sends a notification, with the last value of its target.
     fn notify<N: Net>(&self, net: &mut N, notice: &Notice)
         requires { IsSendable notice.now }
-        ensures { NetShows (N.seen net.old) (N.seen net.new) (did (act.Datagram notice.now.to (notice_bytes notice.now self.now.exposed.state)) ∷ []) }
+        ensures { NetShows (N.seen net.old) (N.seen net.new) (did (act.Datagram notice.now.to (notification_bytes notice.now self.now.exposed.state)) ∷ []) }
     {
         // The room is on the stack, so that a notification takes no memory.
         let mut out = [0u8; LONGEST_MESSAGE];

@@ -2,9 +2,9 @@
 
 ghost use Rattle.std.specs.Prelude.{◌≡◌, ◌↔◌, ℕ, List};
 ghost use Rattle.coap_msg.specs.declared.endpoint.Endpoint.{Endpoint};
-ghost use Rattle.coap_opts.specs.Reading.{PlainAsk};
+ghost use Rattle.coap_opts.specs.Reading.{AskSeen};
 ghost use Rattle.coap_bind.specs.declared.pending.PendingReply.{PendingReply};
-ghost use Rattle.thing_ops.specs.Requests.{PlainRequest};
+ghost use Rattle.thing_ops.specs.Requests.{RequestSeen};
 ghost use Rattle.thing_handler.specs.Turns.{AreNumberedFrom, turns_in};
 ghost use Rattle.servient_outside.specs.Network.{break_count};
 ghost use Rattle.servient_core.specs.declared.serving.Served.{Served};
@@ -59,8 +59,8 @@ pub fn one_meaning()
 /// The directory is reached by HTTP alone, and by its requests no handler is: a request to it by HTTP changes the
 /// directory and nothing of the Things, and a request by CoAP finds nothing at its paths.
 pub fn directory_is_apart()
-    ensures http { (site : Site) → (c : ℕ) → (q : PlainRequest) → AsksDirectoryAlone site c q }
-    ensures coap { (site : Site) → (from : Endpoint) → (ask : PlainAsk) → (request : PendingReply) → FindsNoDirectory site from ask request }
+    ensures http { (site : Site) → (c : ℕ) → (q : RequestSeen) → AsksDirectoryAlone site c q }
+    ensures coap { (site : Site) → (from : Endpoint) → (ask : AskSeen) → (request : PendingReply) → FindsNoDirectory site from ask request }
 {}
 
 /// Each state of a run from the beginning has a history, which are the requests in the events of that run; so

@@ -3,11 +3,11 @@
 
 ghost use Rattle.std.specs.Prelude.{◌≡◌, ◌≤◌, [], length};
 ghost use Rattle.std.specs.List.{All};
-ghost use Rattle.thing_ops.specs.Requests.{plain_request};
+ghost use Rattle.thing_ops.specs.Requests.{request_seen};
 ghost use Rattle.thing_site.specs.Fits.{Fits};
 ghost use Rattle.thing_core.specs.Performing.{MakesAct};
 ghost use Rattle.wot_registry.specs.Times.{last_moment};
-ghost use Rattle.coap_opts.specs.PlainAsk.{plain_ask};
+ghost use Rattle.coap_opts.specs.AskSeen.{ask_seen};
 ghost use Rattle.servient_core.specs.Machine.{observed_target};
 ghost use Rattle.servient_core.specs.Keeping.{IsSendable, MakesByHttp};
 
@@ -28,7 +28,7 @@ pub fn perform_by_http<R: Handlers>(
     requires pending { exposed.old.pending ≡ [] }
     requires fits { Fits exposed.old.site (R.slots rack.old) }
     requires bound { moment ≤ last_moment }
-    ensures { MakesByHttp exposed.old exposed.new directory.old directory.new moment (plain_request request.now) result (R.slots rack.old) (R.slots rack.new) }
+    ensures { MakesByHttp exposed.old exposed.new directory.old directory.new moment (request_seen request.now) result (R.slots rack.old) (R.slots rack.new) }
 {
     if is_of_directory(route(&request.path)) {
         return directory.perform(request, moment);
@@ -40,7 +40,7 @@ pub fn perform_by_http<R: Handlers>(
 pub fn perform<R: Handlers>(exposed: &mut Exposed, rack: &mut R, request: &Request<'_>) -> Outcome
     requires pending { exposed.old.pending ≡ [] }
     requires fits { Fits exposed.old.site (R.slots rack.old) }
-    ensures performed { MakesAct exposed.old exposed.new (plain_request request.now) result (R.slots rack.old) (R.slots rack.new) }
+    ensures performed { MakesAct exposed.old exposed.new (request_seen request.now) result (R.slots rack.old) (R.slots rack.new) }
     ensures sendable { All (λ segment. length segment ≤ 255) request.now.path → IsSendable result }
 {
     // Read for the proof, since a number that was read has 64 bits.
@@ -50,7 +50,7 @@ pub fn perform<R: Handlers>(exposed: &mut Exposed, rack: &mut R, request: &Reque
 
 /// The target that a request may observe: that of its path, where it says Observe.
 pub fn observed_by(exposed: &Exposed, ask: &CoapAsk<'_>) -> Option<u32>
-    ensures { result ≡ observed_target exposed.now.site exposed.now.state (plain_ask ask.now) }
+    ensures { result ≡ observed_target exposed.now.site exposed.now.state (ask_seen ask.now) }
 {
     match ask.observe {
         Some(_) => exposed.target_of(&ask.request.path),

@@ -10,7 +10,7 @@ ghost use Rattle.servient_edge.specs.Naming.{Names, MaySettle, numbers_of, what_
 use crate::finishing::write_kept;
 use crate::moments::Moments;
 use crate::sockets::Sockets;
-use crate::timing::{Due, Timing};
+use crate::timing::{DueEvent, Timing};
 use coap_msg::Endpoint;
 use servient_base::ConnectionId;
 use servient_outside::{Dialled, Event, Found, Listened, Net, Next, Place, What};
@@ -104,7 +104,7 @@ impl<R: net::Net + Clock + Drop> MioNet<R> {
     }
 
     /// The event that is due now.
-    fn due(&self) -> io::Result<Due> {
+    fn due(&self) -> io::Result<DueEvent> {
         match &self.timing {
             Some(timing) => Ok(timing.due(self.moments.last())),
             None => Err(not_ready()),
@@ -232,7 +232,7 @@ impl<R: net::Net + Clock + Drop> MioNet<R> {
         ensures faults { self.old.faults ≤ self.new.faults }
     {
         self.begin()?;
-        if self.due()? == Due::Tick {
+        if self.due()? == DueEvent::Tick {
             self.tick();
             return Ok(What::Tick);
         }
@@ -261,9 +261,9 @@ impl<R: net::Net + Clock + Drop> MioNet<R> {
                 return Ok(what);
             }
             match self.due()? {
-                Due::Nothing => {}
-                Due::Tick => break,
-                Due::Stop => return Ok(What::Stop),
+                DueEvent::Nothing => {}
+                DueEvent::Tick => break,
+                DueEvent::Stop => return Ok(What::Stop),
             }
         }
         self.tick();

@@ -7,7 +7,7 @@ const TICK: u64 = 1000;
 
 /// The event that is due when nothing else comes.
 #[derive(Clone, Copy, Debug, PartialEq, Eq)]
-pub enum Due {
+pub enum DueEvent {
     Nothing,
     Tick,
     Stop,
@@ -45,17 +45,17 @@ impl Timing {
     }
 
     /// The event that is due at a moment. At one moment Stop comes before Tick.
-    pub fn due(&self, moment: u64) -> Due
+    pub fn due(&self, moment: u64) -> DueEvent
         requires { moment ≤ 10 ^ 15 }
         ensures { IsDue self.now moment result }
     {
         let since = self.since.unwrap_or(moment);
         if self.idle != 0 && self.traffic.saturating_add(self.idle) <= moment {
-            Due::Stop
+            DueEvent::Stop
         } else if since.saturating_add(TICK) <= moment {
-            Due::Tick
+            DueEvent::Tick
         } else {
-            Due::Nothing
+            DueEvent::Nothing
         }
     }
 

@@ -12,11 +12,11 @@ use Rattle.coap_bind.specs.Writing.{notification}
 use Rattle.thing_core.specs.State.{State as ThingState, Emission as ThingEmission}
 use Rattle.servient_core.specs.Trace.{Sighting}
 use Rattle.servient_core.specs.Machine.{Site, State, SendsNotification, NothingIsDue, EndsEvent}
-use Rattle.servient_world.specs.World.{WorldState, WorldMove, emit, notify, Datagram, with_new_value, with_notice, notice_sent, PlaysAll}
-use Rattle.servient_ends.specs.Ends.{along, notices_in, as_emission, fresh_among, notice_of, with_emissions, with_notices}
+use Rattle.servient_world.specs.World.{WorldState, WorldMove, emit, notify, Datagram, with_new_value, with_notification, notification_sent, PlaysAll}
+use Rattle.servient_ends.specs.Ends.{along, notifications_in, as_emission, fresh_among, notification_of, with_emissions, with_notifications}
 use Rattle.servient_ends.proofs.LastValues.{has_target, SayTheLast}
 use Rattle.servient_ends.proofs.TargetLaws.{IsTarget}
-use Rattle.servient_ends.proofs.KnownWatchers.{WatchesTargets, watches_emitted, watches_sent, notice_target}
+use Rattle.servient_ends.proofs.KnownObservers.{WatchesTargets, watches_emitted, watches_sent, notification_target}
 use Rattle.servient_ends.proofs.StepParts.{with_targets, targets_in, late_leave, idle_leave}
 
 -- one list of moves after another
@@ -61,7 +61,7 @@ pub record Stand (site : Site) (thing : ThingState) (w : WorldState) (s : State)
 -- these notifications are moves of the world
 pub record Notified (site : Site) (thing : ThingState) (ns : List Notice) (w : WorldState) (s t : State) : Type 0 where
   pub moves : List WorldMove
-  pub plays : PlaysAll moves w (with_notices thing ns (record w { server = t.coap }))
+  pub plays : PlaysAll moves w (with_notifications thing ns (record w { server = t.coap }))
   pub moment : t.moment ≡ s.moment
   pub things : t.thing ≡ thing
   pub watches : WatchesTargets site t.coap
@@ -91,10 +91,10 @@ notified_one : (site : Site) (thing : ThingState) (w : WorldState) (s m t : Stat
     → m.moment ≡ s.moment → m.thing ≡ s.thing
     → ((v : WorldState) → Stand site thing v m → Notified site thing ns v m t) → Notified site thing (n ∷ ns) w s t
 notified_one site thing w s m t n ns stand sends moment thing_same further =
-    let v : WorldState = with_notice (Some n) (record w { server = m.coap }) in
+    let v : WorldState = with_notification (Some n) (record w { server = m.coap }) in
     let sends_there : SendsNext w.moment (Some n) w.server m.coap
     = subst (λ (x : ℕ). SendsNext x (Some n) w.server m.coap) (sym stand.moment) (subst (λ (x : Server). SendsNext s.moment (Some n) x m.coap) (sym stand.server) sends) in
-    let target : IsTarget site n.target = notice_target site s.moment n s.coap m.coap sends stand.watches in
+    let target : IsTarget site n.target = notification_target site s.moment n s.coap m.coap sends stand.watches in
     let value = stand.says n.target (stand.has n.target target) in
     let rest = further v (record {
       server = refl;
@@ -104,10 +104,10 @@ notified_one site thing w s m t n ns stand sends moment thing_same further =
       says = stand.says;
       watches = watches_sent site s.moment (Some n) s.coap m.coap sends stand.watches;
     }) in
-    let one : Datagram = notice_sent w.moment w.asks w.emitted n in
-    let same_one : one ≡ notice_of w thing n = ap (λ (text : List ℕ). record one { bytes = spelling (notification n text) }) (sym value) in
-    let sent : (w.sent ++ one ∷ []) ++ map (notice_of w thing) ns ≡ w.sent ++ notice_of w thing n ∷ map (notice_of w thing) ns
-    = append_assoc w.sent (one ∷ []) (map (notice_of w thing) ns) ∙ ap (λ (x : Datagram). w.sent ++ x ∷ map (notice_of w thing) ns) same_one in
+    let one : Datagram = notification_sent w.moment w.asks w.emitted n in
+    let same_one : one ≡ notification_of w thing n = ap (λ (text : List ℕ). record one { bytes = spelling (notification n text) }) (sym value) in
+    let sent : (w.sent ++ one ∷ []) ++ map (notification_of w thing) ns ≡ w.sent ++ notification_of w thing n ∷ map (notification_of w thing) ns
+    = append_assoc w.sent (one ∷ []) (map (notification_of w thing) ns) ∙ ap (λ (x : Datagram). w.sent ++ x ∷ map (notification_of w thing) ns) same_one in
     record {
       moves = notify ∷ rest.moves;
       plays = (
@@ -120,33 +120,33 @@ notified_one site thing w s m t n ns stand sends moment thing_same further =
       watches = rest.watches;
     }
 
-notices_play : (site : Site) (thing : ThingState) (s t : State) (seen : List Sighting) (u : Until SendsNotification NothingIsDue s seen t) (w : WorldState) → Stand site thing w s
+notifications_play : (site : Site) (thing : ThingState) (s t : State) (seen : List Sighting) (u : Until SendsNotification NothingIsDue s seen t) (w : WorldState) → Stand site thing w s
     → Notified site thing (along SendsNotification NothingIsDue (λ x shown y sends. sends.0 ∷ []) s seen t u) w s t
-notices_play site thing s t seen (is_done s' seen' t' done stays) w stand = notified_none site thing w s t stand stays.next
-notices_play site thing s t seen (goes_on s' mid t' seen' first second one more whole) w stand =
+notifications_play site thing s t seen (is_done s' seen' t' done stays) w stand = notified_none site thing w s t stand stays.next
+notifications_play site thing s t seen (goes_on s' mid t' seen' first second one more whole) w stand =
     let on = one.1.one in
     let does = one.1.other in
     let sends : SendsNext s.moment (Some one.0) s.coap mid.coap
     = subst (λ (x : Server). SendsNext s.moment (Some one.0) s.coap x) (sym (ap (λ (x : State). x.coap) does.next ∙ ap (λ (x : State). x.coap) on.2.next)) on.1 in
     notified_one site thing w s mid t one.0 (along SendsNotification NothingIsDue (λ x shown y sends_it. sends_it.0 ∷ []) mid second t more) stand sends
     (ap (λ (x : State). x.moment) does.next ∙ ap (λ (x : State). x.moment) on.2.next) (ap (λ (x : State). x.thing) does.next ∙ ap (λ (x : State). x.thing) on.2.next)
-    (λ v next. notices_play site thing mid t second more v next)
+    (λ v next. notifications_play site thing mid t second more v next)
 
 -- The end of an event is moves of the world.
 pub end_plays : (site : Site) (thing : ThingState) (s t : State) (seen : List Sighting) (ends : EndsEvent s seen t) (w : WorldState) → Stand site thing w s
-    → Notified site thing (notices_in s seen t ends) w s t
+    → Notified site thing (notifications_in s seen t ends) w s t
 end_plays site thing s t seen ends w stand =
     let u = ends.one.mid in
-    let n = notices_play site thing s u ends.one.first ends.one.one w stand in
+    let n = notifications_play site thing s u ends.one.first ends.one.one w stand in
     let on = ends.one.other in
     let x = ends.mid in
     let left = late_leave x ends.other.mid ends.other.first ends.other.one in
     let idle = idle_leave ends.other.mid t ends.other.second ends.other.other in
     let coap : t.coap ≡ on.0 = idle.coap ∙ (left.coap ∙ ap (λ (y : State). y.coap) on.2.next) in
-    let v : WorldState = with_notices thing (notices_in s seen t ends) (record w { server = u.coap }) in
+    let v : WorldState = with_notifications thing (notifications_in s seen t ends) (record w { server = u.coap }) in
     let sends : SendsNext w.moment None u.coap t.coap
     = subst (λ (y : ℕ). SendsNext y None u.coap t.coap) (n.moment ∙ sym stand.moment) (subst (λ (y : Server). SendsNext u.moment None u.coap y) (sym coap) on.1) in
-    let after : WorldState = with_notices thing (notices_in s seen t ends) (record w { server = t.coap }) in
+    let after : WorldState = with_notifications thing (notifications_in s seen t ends) (record w { server = t.coap }) in
     record {
       moves = n.moves ++ notify ∷ [];
       plays = plays_both n.moves (notify ∷ []) w v after n.plays (after, record { notice = None; after = t.coap; sends = sends; next = refl }, refl);

@@ -29,7 +29,7 @@ use Rattle.servient_core.specs.declared.capacity.TheConstants.{MOST_WATCHERS}
 use Rattle.servient_core.specs.Trace.{Sighting, at_network}
 use Rattle.servient_core.specs.Machine.{State, start, EventAndStep}
 use Rattle.servient_world.specs.World.{client_place, server_place, copy_of, reply_to, WorldState, acts_for, id_used, with_sent, ClientAsks, sends_ask}
-use Rattle.servient_ends.specs.Ends.{EndsState, IsBeginning, act_of, back_of, emitted_by_datagram, notices_in, with_emissions, with_notices, event_at, ServientHears, Arrives, to_servient, TakesAll}
+use Rattle.servient_ends.specs.Ends.{EndsState, IsBeginning, act_of, back_of, emitted_by_datagram, notifications_in, with_emissions, with_notifications, event_at, ServientHears, Arrives, to_servient, TakesAll}
 use Rattle.servient_ends.specs.Examples.{beside, get_root, ask_that_comes, SomeServientActs}
 
 -- ---- what is sent
@@ -128,7 +128,7 @@ abbrev first_table : Table
 first_table = later 0 (nothing_came 16 MOST_WATCHERS).exchanges
 
 abbrev admitting : Server
-admitting = record { exchanges = with_exchange (arrival client_place 0 question) 0 first_table; watchers = (nothing_came 16 MOST_WATCHERS).watchers; next_id = 0; bodies = []; parts = []; links = [] }
+admitting = record { exchanges = with_exchange (arrival client_place 0 question) 0 first_table; observers = (nothing_came 16 MOST_WATCHERS).observers; next_id = 0; bodies = []; parts = []; links = [] }
 
 abbrev answered_server : Server
 answered_server = with_kept Confirmable 0 answer_bytes (with_id_used Confirmable admitting)
@@ -138,7 +138,7 @@ hears_it = admitted question 0 admitting (record {
   spells = question_spells;
   request = refl;
   meets = (refl, (omega arith, refl, refl));
-  same_watchers = refl;
+  same_observers = refl;
   same_id = refl;
   same_bodies = refl;
   same_parts = refl;
@@ -148,7 +148,7 @@ hears_it = admitted question 0 admitting (record {
 answers_it : Answers (pending_of client_place 0 question 0) outcome.NotFound None answer_bytes admitting answered_server
 answers_it = record {
   observe = None;
-  watchers = (nothing_came 16 MOST_WATCHERS).watchers;
+  observers = (nothing_came 16 MOST_WATCHERS).observers;
   watches = leaves refl refl refl;
   replies = record { bytes_are = refl; after = refl };
 }
@@ -161,7 +161,7 @@ acts_on_it : Acts [] (what_is_asked question).request (only outcome.NotFound) th
 acts_on_it = refuses outcome.NotFound (inl (refl, refl)) (refl, record { next = refl; saw = refl })
 
 sends_nothing : SendsNext 0 None answered_server answered_server
-sends_nothing = record { watchers = answered_server.watchers; notifies = record { left = []; gives_up = nobody [] [] refl refl; sends = nothing [] refl refl refl }; capacity = refl; after = refl }
+sends_nothing = record { observers = answered_server.observers; notifies = record { left = []; gives_up = nobody [] [] refl refl; sends = nothing [] refl refl refl }; capacity = refl; after = refl }
 
 abbrev it_comes : EventWithBytes
 it_comes = event_at 0 (what.Datagram client_place (length sent_bytes)) sent_bytes
@@ -255,7 +255,7 @@ the_step = record {
 
 abbrev answered_world : List (Option ℕ) → WorldState
 answered_world uses =
-    with_notices things (notices_in the_step.other.mid the_step.other.second answered_state the_step.other.other)
+    with_notifications things (notifications_in the_step.other.mid the_step.other.second answered_state the_step.other.other)
     (with_emissions (emitted_by_datagram [] client_place sent_bytes (start [] 16 None) the_step.other.first the_step.other.mid the_step.other.one)
     (with_sent (record (asked_world uses) {
       server = answered_server;

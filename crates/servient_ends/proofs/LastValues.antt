@@ -4,45 +4,45 @@ use Rattle.std.specs.Prelude.{Option, Some, None, unwrap_or, ◌==◌, if◌then
 use Rattle.std.proofs.lemmas.Bool.Decides.{nat_tests}
 use Rattle.std.proofs.lemmas.List.{append-nil}
 use Rattle.thing_site.specs.Site.{Placed}
-use Rattle.thing_core.specs.State.{Emission as ThingEmission, Latest, silent, last_of, renewed, last_after}
+use Rattle.thing_core.specs.State.{Emission as ThingEmission, LastValue, silent, last_of, renewed, last_after}
 use Rattle.servient_world.specs.World.{Emission, value_after, last_value}
 use Rattle.servient_ends.specs.Ends.{as_emission}
 
 -- a target is one of these
-abbrev pub has_target : ℕ → List Latest → Bool
+abbrev pub has_target : ℕ → List LastValue → Bool
 has_target target [] = false
 has_target target (l ∷ last) = if l.target == target then true else has_target target last
 
 -- ---- one more emission
 
-renewed_target : (e : ThingEmission) (l : Latest) → (renewed e l).target ≡ l.target
+renewed_target : (e : ThingEmission) (l : LastValue) → (renewed e l).target ≡ l.target
 renewed_target e l = by_test (l.target == e.target)
   where
     by_test : (b : Bool) → (cond b (record l { text = Some e.text }) l).target ≡ l.target
     by_test true = refl
     by_test false = refl
 
-renewed_text : (e : ThingEmission) (l : Latest) → (renewed e l).text ≡ cond (l.target == e.target) (Some e.text) l.text
+renewed_text : (e : ThingEmission) (l : LastValue) → (renewed e l).text ≡ cond (l.target == e.target) (Some e.text) l.text
 renewed_text e l = by_test (l.target == e.target)
   where
     by_test : (b : Bool) → (cond b (record l { text = Some e.text }) l).text ≡ cond b (Some e.text) l.text
     by_test true = refl
     by_test false = refl
 
-renewed_has : (target : ℕ) (e : ThingEmission) (last : List Latest) → has_target target (map (renewed e) last) ≡ has_target target last
+renewed_has : (target : ℕ) (e : ThingEmission) (last : List LastValue) → has_target target (map (renewed e) last) ≡ has_target target last
 renewed_has target e [] = refl
 renewed_has target e (l ∷ last) =
     ap (λ (n : ℕ). cond (n == target) true (has_target target (map (renewed e) last))) (renewed_target e l)
     ∙ ap (λ (b : Bool). cond (l.target == target) true b) (renewed_has target e last)
 
-pub last_has : (target : ℕ) (es : List ThingEmission) (last : List Latest) → has_target target (last_after es last) ≡ has_target target last
+pub last_has : (target : ℕ) (es : List ThingEmission) (last : List LastValue) → has_target target (last_after es last) ≡ has_target target last
 last_has target [] last = refl
 last_has target (e ∷ es) last = last_has target es (map (renewed e) last) ∙ renewed_has target e last
 
 same_tests : (x y z : ℕ) → (x == z) ≡ true → (x == y) ≡ (y == z)
 same_tests x y z is = grind (arith, nat_tests)
 
-renewed_last : (target : ℕ) (e : ThingEmission) (last : List Latest) → has_target target last ≡ true
+renewed_last : (target : ℕ) (e : ThingEmission) (last : List LastValue) → has_target target last ≡ true
     → last_of target (map (renewed e) last) ≡ cond (e.target == target) (Some e.text) (last_of target last)
 renewed_last target e [] has = absurd cc
 renewed_last target e (l ∷ last) has =
@@ -62,21 +62,21 @@ value_push target text (x ∷ es) e = value_push target (cond (x.target == targe
 
 -- ---- the last values say what was emitted
 
-abbrev pub SayTheLast : List Latest → List Emission → Type 0
+abbrev pub SayTheLast : List LastValue → List Emission → Type 0
 SayTheLast last emitted = (target : ℕ) → has_target target last ≡ true → unwrap_or (last_of target last) [] ≡ last_value target emitted
 
 some_or : (b : Bool) (text : List ℕ) (o : Option (List ℕ)) → unwrap_or (cond b (Some text) o) [] ≡ cond b text (unwrap_or o [])
 some_or true text o = refl
 some_or false text o = refl
 
-say_one_more : (e : ThingEmission) (last : List Latest) (emitted : List Emission) → SayTheLast last emitted → SayTheLast (map (renewed e) last) (emitted ++ as_emission e ∷ [])
+say_one_more : (e : ThingEmission) (last : List LastValue) (emitted : List Emission) → SayTheLast last emitted → SayTheLast (map (renewed e) last) (emitted ++ as_emission e ∷ [])
 say_one_more e last emitted says = λ target has.
     let there : has_target target last ≡ true = sym (renewed_has target e last) ∙ has in
     ap (λ (o : Option (List ℕ)). unwrap_or o []) (renewed_last target e last there)
     ∙ (some_or (e.target == target) e.text (last_of target last)
     ∙ (ap (λ (v : List ℕ). cond (e.target == target) e.text v) (says target there) ∙ sym (value_push target [] emitted (as_emission e))))
 
-pub say_more : (es : List ThingEmission) (last : List Latest) (emitted : List Emission) → SayTheLast last emitted → SayTheLast (last_after es last) (emitted ++ map as_emission es)
+pub say_more : (es : List ThingEmission) (last : List LastValue) (emitted : List Emission) → SayTheLast last emitted → SayTheLast (last_after es last) (emitted ++ map as_emission es)
 say_more [] last emitted says = subst (SayTheLast last) (sym (append-nil emitted)) says
 say_more (e ∷ es) last emitted says =
     subst (SayTheLast (last_after es (map (renewed e) last))) (append_assoc emitted (as_emission e ∷ []) (map as_emission es))

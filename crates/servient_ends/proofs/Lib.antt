@@ -1,7 +1,7 @@
 pub mod ThingLaws
 pub mod LastValues
 pub mod TargetLaws
-pub mod KnownWatchers
+pub mod KnownObservers
 pub mod StepParts
 pub mod EndOfEvent
 pub mod TurnLaws

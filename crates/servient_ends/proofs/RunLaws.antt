@@ -15,7 +15,7 @@ use Rattle.servient_core.specs.Trace.{Sighting}
 use Rattle.servient_core.specs.Machine.{Site, State, EventAndStep, Run}
 use Rattle.servient_world.specs.World.{WorldState, Datagram, Purpose, client_place, server_place, other, copy_of, purpose_back, acts_for, id_used, latest, with_sent, sent_now, ClientAsks, sends_ask, refuses_ask, skips_ask, ClientDoesDue, retransmits, gives_up, waits, ClientTakes}
 use Rattle.servient_ends.specs.Laws.{ServientRuns}
-use Rattle.servient_ends.specs.Ends.{EndsState, act_of, back_of, emitted_by_datagram, emitted_by, notices_in, with_emissions, notice_of, event_at, ServientHears, ServientDoes, Turn, asks_next, does_due, delivers, passes, happens, AtClient, Stays, too_late, to_client, to_servient, ArrivesIfSent, FromElsewhere, comes_from_elsewhere, is_of_an_end, Besides, Takes, TakesAll, datagrams_in, sent_by_servient}
+use Rattle.servient_ends.specs.Ends.{EndsState, act_of, back_of, emitted_by_datagram, emitted_by, notifications_in, with_emissions, notification_of, event_at, ServientHears, ServientDoes, Turn, asks_next, does_due, delivers, passes, happens, AtClient, Stays, too_late, to_client, to_servient, ArrivesIfSent, FromElsewhere, comes_from_elsewhere, is_of_an_end, Besides, Takes, TakesAll, datagrams_in, sent_by_servient}
 use Rattle.servient_ends.proofs.StepParts.{IsNoDatagram}
 use Rattle.servient_ends.proofs.SeenLaws.{seen_both, back_to, noticed, hearing_sends, doing_sends}
 
@@ -37,9 +37,9 @@ sent_back : (moment : ℕ) (from : Endpoint) (purpose : Purpose) (said : List (L
 sent_back moment from purpose [] = refl
 sent_back moment from purpose (bytes ∷ said) = ap (λ (l : Sent). (from, bytes) ∷ l) (sent_back moment from purpose said)
 
-sent_notices : (w : WorldState) (thing : ThingState) (ns : List Notice) → sent_by_servient (map (notice_of w thing) ns) ≡ noticed thing ns
-sent_notices w thing [] = refl
-sent_notices w thing (n ∷ ns) = ap (λ (l : Sent). ((notice_of w thing n).to, (notice_of w thing n).bytes) ∷ l) (sent_notices w thing ns)
+sent_notifications : (w : WorldState) (thing : ThingState) (ns : List Notice) → sent_by_servient (map (notification_of w thing) ns) ≡ noticed thing ns
+sent_notifications w thing [] = refl
+sent_notifications w thing (n ∷ ns) = ap (λ (l : Sent). ((notification_of w thing n).to, (notification_of w thing n).bytes) ∷ l) (sent_notifications w thing ns)
 
 sent_by_client : (moment : ℕ) (to : Endpoint) (purpose : Purpose) (said : List (List ℕ)) → sent_by_servient (sent_now moment client_place to purpose said) ≡ []
 sent_by_client moment to purpose [] = refl
@@ -129,7 +129,7 @@ hears_ran site from size bytes purpose p q it =
     let step = it.step.other in
     let s1 : State = record it.step.mid { moment = max it.step.mid.moment p.world.moment } in
     let back : List (List ℕ) = back_of site from bytes s1 step.first step.mid step.one in
-    let ns : List Notice = notices_in step.mid step.second q.servient step.other in
+    let ns : List Notice = notifications_in step.mid step.second q.servient step.other in
     let w : WorldState = with_emissions (emitted_by_datagram site from bytes s1 step.first step.mid step.one) (with_sent (record p.world {
       server = q.servient.coap;
       acts = p.world.acts ++ acts_for purpose (act_of site from bytes s1 step.first step.mid step.one);
@@ -140,8 +140,8 @@ hears_ran site from size bytes purpose p q it =
       seen = it.seen;
       run = one_run site (event_at p.world.moment (what.Datagram from size) bytes) p.servient q.servient it.seen it.step;
       sent = ap (λ (x : WorldState). sent_by_servient x.sent) it.next
-          ∙ both_sent p.world.sent (sent_now p.world.moment server_place from (purpose_back purpose) back) (map (notice_of w q.servient.thing) ns) (back_to from back) (noticed q.servient.thing ns) (datagrams_in it.seen)
-          (sent_back p.world.moment from (purpose_back purpose) back) (sent_notices w q.servient.thing ns)
+          ∙ both_sent p.world.sent (sent_now p.world.moment server_place from (purpose_back purpose) back) (map (notification_of w q.servient.thing) ns) (back_to from back) (noticed q.servient.thing ns) (datagrams_in it.seen)
+          (sent_back p.world.moment from (purpose_back purpose) back) (sent_notifications w q.servient.thing ns)
           (hearing_sends site p.world.moment from size bytes p.servient q.servient it.seen it.step);
     }
 
@@ -149,14 +149,14 @@ does_ran : (site : Site) (w : What) (bytes : List ℕ) (p q : EndsState) → IsN
 does_ran site w bytes p q plain it =
     let step = it.step.other in
     let s1 : State = record it.step.mid { moment = max it.step.mid.moment p.world.moment } in
-    let ns : List Notice = notices_in step.mid step.second q.servient step.other in
+    let ns : List Notice = notifications_in step.mid step.second q.servient step.other in
     let v : WorldState = with_emissions (emitted_by site w bytes s1 step.first step.mid step.one) (record p.world { server = q.servient.coap }) in
     record {
       events = event_at p.world.moment w bytes ∷ [];
       seen = it.seen;
       run = one_run site (event_at p.world.moment w bytes) p.servient q.servient it.seen it.step;
       sent = ap (λ (x : WorldState). sent_by_servient x.sent) it.next
-          ∙ one_sent p.world.sent (map (notice_of v q.servient.thing) ns) (noticed q.servient.thing ns) (datagrams_in it.seen) (sent_notices v q.servient.thing ns)
+          ∙ one_sent p.world.sent (map (notification_of v q.servient.thing) ns) (noticed q.servient.thing ns) (datagrams_in it.seen) (sent_notifications v q.servient.thing ns)
           (doing_sends site p.world.moment w bytes p.servient q.servient it.seen plain it.step);
     }
 

@@ -6,7 +6,7 @@ use Rattle.servient_base.specs.Moves.{Each, Until, is_done, goes_on}
 use Rattle.coap_msg.specs.declared.endpoint.Endpoint.{Endpoint}
 use Rattle.coap_observe.specs.declared.notice.Notice.{Notice}
 use Rattle.coap_bind.specs.Server.{Heard, ignored, answered_at_once, asked}
-use Rattle.thing_ops.specs.Requests.{PlainRequest}
+use Rattle.thing_ops.specs.Requests.{RequestSeen}
 use Rattle.thing_handler.specs.Turns.{HandlerCall}
 use Rattle.http_bind.specs.Streams.{HttpReply, Taken, asks, wants_continue, is_faulty, interrupts, oldest_for, oldest_late, IsDry, NoneIdle}
 use Rattle.thing_site.specs.Site.{Placed, events_of}
@@ -16,8 +16,8 @@ use Rattle.servient_outside.specs.declared.net.What.{What}
 use Rattle.servient_outside.specs.declared.net.What.TheVariants as what
 use Rattle.servient_outside.specs.Network.{did}
 use Rattle.servient_core.specs.Trace.{Sighting, at_network, at_handler}
-use Rattle.servient_core.specs.Machine.{Site, State, Move, acts_of_reply, SendsIfAny, RepliesToWait, AnswersWait, AnswersLateWait, Delivers, PerformsByHttp, AnswersDatagram, HearsDatagram, AnswersTaken, TakesNextMessage, ClosesIdle, PollsAndDelivers, notice_bytes, SendsNotification, NothingIsDue, EndsEvent, Follows, EventAndStep}
-use Rattle.servient_ends.specs.Ends.{along, sent_on, back_of, notices_in, event_at, datagrams_at, datagrams_in}
+use Rattle.servient_core.specs.Machine.{Site, State, Move, acts_of_reply, SendsIfAny, RepliesToWait, AnswersWait, AnswersLateWait, Delivers, PerformsByHttp, AnswersDatagram, HearsDatagram, AnswersTaken, TakesNextMessage, ClosesIdle, PollsAndDelivers, notification_bytes, SendsNotification, NothingIsDue, EndsEvent, Follows, EventAndStep}
+use Rattle.servient_ends.specs.Ends.{along, sent_on, back_of, notifications_in, event_at, datagrams_at, datagrams_in}
 use Rattle.servient_ends.proofs.StepParts.{IsNoDatagram, Leaves, late_leave, idle_leave}
 
 abbrev Sent : Type 0
@@ -79,7 +79,7 @@ any_quiet : (c : ℕ) (reply : Option HttpReply) (s t : State) (seen : List Sigh
 any_quiet c None s t seen stays = quiet_as [] seen stays.saw refl
 any_quiet c (Some reply) s t seen does = quiet_as _ seen does.saw (reply_quiet c reply.bytes reply.closes)
 
-http_quiet : (site : Site) (q : PlainRequest) (done : Done) (s t : State) (seen : List Sighting) → PerformsByHttp site q done s seen t → IsQuiet seen
+http_quiet : (site : Site) (q : RequestSeen) (done : Done) (s t : State) (seen : List Sighting) → PerformsByHttp site q done s seen t → IsQuiet seen
 http_quiet site q done s t seen (inl directory) = quiet_as [] seen directory.1.3.saw refl
 http_quiet site q done s t seen (inr things) = quiet_as (map at_handler things.1.1) seen things.1.3.saw (calls_quiet things.1.1)
 
@@ -145,31 +145,31 @@ datagram_sends site from bytes s t seen (inr h) =
 -- ---- the end of an event
 
 abbrev pub noticed : ThingState → List Notice → Sent
-noticed thing ns = map (λ n. (n.to, notice_bytes n thing)) ns
+noticed thing ns = map (λ n. (n.to, notification_bytes n thing)) ns
 
-notices_send : (thing : ThingState) (s t : State) (seen : List Sighting) → s.thing ≡ thing → (u : Until SendsNotification NothingIsDue s seen t)
+notifications_send : (thing : ThingState) (s t : State) (seen : List Sighting) → s.thing ≡ thing → (u : Until SendsNotification NothingIsDue s seen t)
     → (datagrams_in seen ≡ noticed thing (along SendsNotification NothingIsDue (λ x shown y sends. sends.0 ∷ []) s seen t u)) × (t.thing ≡ thing)
-notices_send thing s t seen same (is_done s' seen' t' done stays) = (ap datagrams_in stays.saw, ap (λ (x : State). x.thing) stays.next ∙ same)
-notices_send thing s t seen same (goes_on s' mid t' seen' first second one more whole) =
+notifications_send thing s t seen same (is_done s' seen' t' done stays) = (ap datagrams_in stays.saw, ap (λ (x : State). x.thing) stays.next ∙ same)
+notifications_send thing s t seen same (goes_on s' mid t' seen' first second one more whole) =
     let on = one.1.one in
     let does = one.1.other in
     let same_mid : mid.thing ≡ thing = ap (λ (x : State). x.thing) does.next ∙ (ap (λ (x : State). x.thing) on.2.next ∙ same) in
-    let rest = notices_send thing mid t second same_mid more in
-    let said : ThingState → Sent = λ x. (one.0.to, notice_bytes one.0 x) ∷ [] in (
+    let rest = notifications_send thing mid t second same_mid more in
+    let said : ThingState → Sent = λ x. (one.0.to, notification_bytes one.0 x) ∷ [] in (
       then_sends seen first second (said thing) _ whole
           (then_sends first one.1.first one.1.second [] (said thing) one.1.whole (quiet_as [] one.1.first on.2.saw refl) (ap datagrams_in does.saw ∙ ap said same)) rest.0,
       rest.1,
     )
 
-end_sends : (s t : State) (seen : List Sighting) (ends : EndsEvent s seen t) → datagrams_in seen ≡ noticed t.thing (notices_in s seen t ends)
+end_sends : (s t : State) (seen : List Sighting) (ends : EndsEvent s seen t) → datagrams_in seen ≡ noticed t.thing (notifications_in s seen t ends)
 end_sends s t seen ends =
-    let n = notices_send s.thing s ends.one.mid ends.one.first refl ends.one.one in
+    let n = notifications_send s.thing s ends.one.mid ends.one.first refl ends.one.one in
     let x = ends.mid in
     let on = ends.one.other in
     let left : Leaves x ends.other.mid = late_leave x ends.other.mid ends.other.first ends.other.one in
     let idle : Leaves ends.other.mid t = idle_leave ends.other.mid t ends.other.second ends.other.other in
     let thing : s.thing ≡ t.thing = sym (idle.thing ∙ (left.thing ∙ (ap (λ (y : State). y.thing) on.2.next ∙ n.1))) in
-    let ns : List Notice = notices_in s seen t ends in
+    let ns : List Notice = notifications_in s seen t ends in
     let quiet : IsQuiet ends.second = quiet_then ends.second ends.other.first ends.other.second ends.other.whole
     (until_quiet AnswersLateWait (λ (y : State). oldest_late y.moment y.http.waits ≡ None) (λ y z shown move. wait_quiet move.0 None y z shown move.2) x ends.other.mid ends.other.first ends.other.one)
     (until_quiet ClosesIdle (λ (y : State). NoneIdle y.moment y.http)
@@ -184,7 +184,7 @@ end_sends s t seen ends =
 -- The trace of a datagram with its step: the datagrams that were sent back, and the notifications.
 pub hearing_sends : (site : Site) (now : ℕ) (from : Endpoint) (size : ℕ) (bytes : List ℕ) (s t : State) (seen : List Sighting)
     → (step : EventAndStep site (event_at now (what.Datagram from size) bytes) s seen t)
-    → datagrams_in seen ≡ back_to from (back_of site from bytes _ step.other.first step.other.mid step.other.one) ++ noticed t.thing (notices_in step.other.mid step.other.second t step.other.other)
+    → datagrams_in seen ≡ back_to from (back_of site from bytes _ step.other.first step.other.mid step.other.one) ++ noticed t.thing (notifications_in step.other.mid step.other.second t step.other.other)
 hearing_sends site now from size bytes s t seen step =
     then_sends seen step.first step.second [] _ step.whole (quiet_as _ step.first step.one.saw refl)
     (then_sends step.second step.other.first step.other.second _ _ step.other.whole
@@ -193,7 +193,7 @@ hearing_sends site now from size bytes s t seen step =
 -- Of any other event with its step: the notifications.
 pub doing_sends : (site : Site) (now : ℕ) (w : What) (bytes : List ℕ) (s t : State) (seen : List Sighting) → IsNoDatagram w
     → (step : EventAndStep site (event_at now w bytes) s seen t)
-    → datagrams_in seen ≡ noticed t.thing (notices_in step.other.mid step.other.second t step.other.other)
+    → datagrams_in seen ≡ noticed t.thing (notifications_in step.other.mid step.other.second t step.other.other)
 doing_sends site now w bytes s t seen plain step =
     then_sends seen step.first step.second [] _ step.whole (quiet_as _ step.first step.one.saw refl)
     (then_sends step.second step.other.first step.other.second [] _ step.other.whole

@@ -7,8 +7,8 @@ use Rattle.std.proofs.lemmas.List.{map-append}
 use Rattle.servient_base.specs.Moves.{Becomes, Each, Until, is_done, goes_on}
 use Rattle.coap_msg.specs.declared.endpoint.Endpoint.{Endpoint}
 use Rattle.thing_ops.specs.declared.outcome.Outcome.{Outcome}
-use Rattle.thing_ops.specs.Requests.{PlainRequest}
-use Rattle.coap_opts.specs.Reading.{PlainAsk}
+use Rattle.thing_ops.specs.Requests.{RequestSeen}
+use Rattle.coap_opts.specs.Reading.{AskSeen}
 use Rattle.coap_bind.specs.declared.server.Server.{Server}
 use Rattle.coap_bind.specs.Server.{Heard, ignored, answered_at_once, asked, Hears, Answers, with_emitted}
 use Rattle.coap_bind.specs.Treating.{Acted, ignores, answers, acts}
@@ -27,7 +27,7 @@ use Rattle.servient_world.specs.World.{Receives, too_long, treated}
 use Rattle.servient_ends.specs.Ends.{along, act_on, sent_on, emitted_on, act_of, back_of, emitted_by_datagram, emitted_by_message, emitted_by_next, emitted_by_polls, emitted_by}
 use Rattle.servient_ends.proofs.ThingLaws.{IsCounted, few_ids, Emitted, emitted_then, acts_emit, polls_emit}
 use Rattle.servient_ends.proofs.TargetLaws.{observed_there}
-use Rattle.servient_ends.proofs.KnownWatchers.{ActsOnTarget}
+use Rattle.servient_ends.proofs.KnownObservers.{ActsOnTarget}
 
 -- ---- moves that leave these parts
 
@@ -153,7 +153,7 @@ record Performed (es : List Emission) (s t : State) : Type 0 where
   coap : t.coap ≡ s.coap
   thing : Emitted es s.thing t.thing
 
-performed_by_http : (site : Site) (q : PlainRequest) (done : Done) (s t : State) (seen : List Sighting) → PerformsByHttp site q done s seen t → Performed done.emissions s t
+performed_by_http : (site : Site) (q : RequestSeen) (done : Done) (s t : State) (seen : List Sighting) → PerformsByHttp site q done s seen t → Performed done.emissions s t
 performed_by_http site q done s t seen (inl directory) =
     let next = directory.1.3.next in
     let left : Leaves s t = leaves_as s _ t [] seen refl refl refl directory.1.3 in
@@ -237,7 +237,7 @@ nothing_emitted s t same = record { last = ap (λ (x : ThingState). x.last) same
 no_target : (site : Site) → ActsOnTarget site None
 no_target site = λ a n none target. absurd (let apart : None ≡ Some a = none in cc)
 
-one_target : (site : Site) (ask : PlainAsk) (o : Outcome) (thing : ThingState) → ActsOnTarget site (Some (record { what = ask; outcome = o; target = observed_target site thing ask }))
+one_target : (site : Site) (ask : AskSeen) (o : Outcome) (thing : ThingState) → ActsOnTarget site (Some (record { what = ask; outcome = o; target = observed_target site thing ask }))
 one_target site ask o thing = λ a n is target.
     observed_there site thing ask n (ap (λ (x : Acted). x.target) (same_Some (record { what = ask; outcome = o; target = observed_target site thing ask }) a is) ∙ target)
 

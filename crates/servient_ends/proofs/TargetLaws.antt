@@ -12,13 +12,13 @@ use Rattle.thing_ops.specs.declared.routing.RouteKind.TheVariants as route
 use Rattle.thing_ops.specs.Routes.{route_of}
 use Rattle.thing_site.specs.Site.{Placed, ExposedThing, Site, affordance_named, thing_named, is_kind, is_emitter, emitters_of, emitters_of_thing}
 use Rattle.thing_site.specs.Places.{affordance_in, thing_in, place_at, where_observable, target_at}
-use Rattle.thing_site.specs.declared.place.Place.{Place}
-use Rattle.thing_site.specs.declared.place.Place.TheVariants.{Description as description, AllProperties as all_properties, Property as property, Observed as observed, Action as action, Invocation as invocation, Event as event, Subscribed as subscribed}
+use Rattle.thing_site.specs.declared.place.Resource.{Resource}
+use Rattle.thing_site.specs.declared.place.Resource.TheVariants.{Description as description, AllProperties as all_properties, Property as property, Observed as observed, Action as action, Invocation as invocation, Event as event, Subscribed as subscribed}
 use Rattle.thing_core.specs.State.{State as ThingState, Invocation, invocation_named, silent}
 use Rattle.thing_core.specs.Places.{where_stands, place_of, target_of}
 use Rattle.thing_core.proofs.Handed.{came_of, made_of, named_has}
 use Rattle.thing_core.proofs.SlotLaws.{SiteHas}
-use Rattle.coap_opts.specs.Reading.{PlainAsk}
+use Rattle.coap_opts.specs.Reading.{AskSeen}
 use Rattle.servient_core.specs.Machine.{observed_target}
 use Rattle.servient_ends.proofs.LastValues.{has_target}
 
@@ -147,23 +147,23 @@ event_target : (site : Site) (p : Placed) (n : ℕ) → IsFound site kind.Event 
 event_target site p n there e = subst (IsTarget site) (same_Some p.slot n e) (there.target (event_emits p there.kind))
 
 -- a place of this form is no target
-none_here : (site : Site) (place other : Place) (n : ℕ) → other ≡ place → target_at (Some other) ≡ None → target_at (Some place) ≡ Some n → IsTarget site n
-none_here site place other n same none some = absurd (let apart : None ≡ Some n = sym none ∙ (ap (λ (x : Place). target_at (Some x)) same ∙ some) in cc)
+none_here : (site : Site) (place other : Resource) (n : ℕ) → other ≡ place → target_at (Some other) ≡ None → target_at (Some place) ≡ Some n → IsTarget site n
+none_here site place other n same none some = absurd (let apart : None ≡ Some n = sym none ∙ (ap (λ (x : Resource). target_at (Some x)) same ∙ some) in cc)
 
-observable_none : (p : Placed) (place : Place) (n : ℕ) → where_observable p ≡ Some place → target_at (Some place) ≡ Some n → ⊥
+observable_none : (p : Placed) (place : Resource) (n : ℕ) → where_observable p ≡ Some place → target_at (Some place) ≡ Some n → ⊥
 observable_none p place n e some = by_test p.affordance.observable e
   where
     by_test : (b : Bool) → cond b (Some (observed p)) None ≡ Some place → ⊥
-    by_test true is = let none : target_at (Some (observed p)) ≡ Some n = ap (λ (x : Place). target_at (Some x)) (same_Some (observed p) place is) ∙ some in cc
+    by_test true is = let none : target_at (Some (observed p)) ≡ Some n = ap (λ (x : Resource). target_at (Some x)) (same_Some (observed p) place is) ∙ some in cc
     by_test false is = cc
 
-place_target : (form : RouteKind) (path : List (List ℕ)) (site : Site) (place : Place) (n : ℕ) → place_at form path site ≡ Some place → target_at (Some place) ≡ Some n → IsTarget site n
+place_target : (form : RouteKind) (path : List (List ℕ)) (site : Site) (place : Resource) (n : ℕ) → place_at form path site ≡ Some place → target_at (Some place) ≡ Some n → IsTarget site n
 place_target route.Root path site place n e some = let of = made_of description (slice_get site 0) place e in none_here site place (description of.0) n of.2 refl some
 place_target route.Thing path site place n e some = let of = made_of description (thing_in path site) place e in none_here site place (description of.0) n of.2 refl some
 place_target route.All path site place n e some = let of = made_of all_properties (thing_in path site) place e in none_here site place (all_properties of.0) n of.2 refl some
 place_target route.Property path site place n e some =
     let of = made_of property (affordance_in kind.Property path site) place e in
-    property_target site of.0 n (found kind.Property path site of.0 of.1) (ap (λ (x : Place). target_at (Some x)) of.2 ∙ some)
+    property_target site of.0 n (found kind.Property path site of.0 of.1) (ap (λ (x : Resource). target_at (Some x)) of.2 ∙ some)
 place_target route.Observe path site place n e some = let of = came_of where_observable (affordance_in kind.Property path site) place e in absurd (observable_none of.0 place n of.2 some)
 place_target route.Subscribe path site place n e some = let of = made_of subscribed (affordance_in kind.Event path site) place e in none_here site place (subscribed of.0) n of.2 refl some
 place_target route.Action path site place n e some = let of = made_of action (affordance_in kind.Action path site) place e in none_here site place (action of.0) n of.2 refl some
@@ -171,25 +171,25 @@ place_target (route.Invocation id) path site place n e some =
     let of = made_of (λ (p : Placed). invocation p id) (affordance_in kind.Action path site) place e in none_here site place (invocation of.0 id) n of.2 refl some
 place_target route.Event path site place n e some =
     let of = made_of event (affordance_in kind.Event path site) place e in
-    event_target site of.0 n (found kind.Event path site of.0 of.1) (ap (λ (x : Place). target_at (Some x)) of.2 ∙ some)
+    event_target site of.0 n (found kind.Event path site of.0 of.1) (ap (λ (x : Resource). target_at (Some x)) of.2 ∙ some)
 place_target route.Things path site place n e some = absurd cc
 place_target route.Entry path site place n e some = absurd cc
 place_target route.Nowhere path site place n e some = absurd cc
 
 -- the place that stands is the one that was looked for, where it is a target
-stands_same : (invocations : List Invocation) (place there : Place) (n : ℕ) → where_stands invocations place ≡ Some there → target_at (Some there) ≡ Some n → target_at (Some place) ≡ Some n
-stands_same invocations (description t) there n e some = ap (λ (x : Place). target_at (Some x)) (same_Some (description t) there e) ∙ some
-stands_same invocations (all_properties t) there n e some = ap (λ (x : Place). target_at (Some x)) (same_Some (all_properties t) there e) ∙ some
-stands_same invocations (property p) there n e some = ap (λ (x : Place). target_at (Some x)) (same_Some (property p) there e) ∙ some
-stands_same invocations (observed p) there n e some = ap (λ (x : Place). target_at (Some x)) (same_Some (observed p) there e) ∙ some
-stands_same invocations (action p) there n e some = ap (λ (x : Place). target_at (Some x)) (same_Some (action p) there e) ∙ some
+stands_same : (invocations : List Invocation) (place there : Resource) (n : ℕ) → where_stands invocations place ≡ Some there → target_at (Some there) ≡ Some n → target_at (Some place) ≡ Some n
+stands_same invocations (description t) there n e some = ap (λ (x : Resource). target_at (Some x)) (same_Some (description t) there e) ∙ some
+stands_same invocations (all_properties t) there n e some = ap (λ (x : Resource). target_at (Some x)) (same_Some (all_properties t) there e) ∙ some
+stands_same invocations (property p) there n e some = ap (λ (x : Resource). target_at (Some x)) (same_Some (property p) there e) ∙ some
+stands_same invocations (observed p) there n e some = ap (λ (x : Resource). target_at (Some x)) (same_Some (observed p) there e) ∙ some
+stands_same invocations (action p) there n e some = ap (λ (x : Resource). target_at (Some x)) (same_Some (action p) there e) ∙ some
 stands_same invocations (invocation p id) there n e some =
     let of = made_of (λ (i : Invocation). invocation p id) (invocation_named p.slot id invocations) there e in
-    ap (λ (x : Place). target_at (Some x)) of.2 ∙ some
-stands_same invocations (event p) there n e some = ap (λ (x : Place). target_at (Some x)) (same_Some (event p) there e) ∙ some
-stands_same invocations (subscribed p) there n e some = ap (λ (x : Place). target_at (Some x)) (same_Some (subscribed p) there e) ∙ some
+    ap (λ (x : Resource). target_at (Some x)) of.2 ∙ some
+stands_same invocations (event p) there n e some = ap (λ (x : Resource). target_at (Some x)) (same_Some (event p) there e) ∙ some
+stands_same invocations (subscribed p) there n e some = ap (λ (x : Resource). target_at (Some x)) (same_Some (subscribed p) there e) ∙ some
 
-some_place : (o : Option Place) (n : ℕ) → target_at o ≡ Some n → (place : Place) × (o ≡ Some place) × (target_at (Some place) ≡ Some n)
+some_place : (o : Option Resource) (n : ℕ) → target_at o ≡ Some n → (place : Resource) × (o ≡ Some place) × (target_at (Some place) ≡ Some n)
 some_place None n e = absurd cc
 some_place (Some place) n e = (place, refl, e)
 
@@ -200,7 +200,7 @@ target_there path site invocations n e =
     place_target (route_of path) path site of.0 n of.1 (stands_same invocations of.0 some.0 n of.2 some.2)
 
 -- A request observes a target.
-pub observed_there : (site : Site) (thing : ThingState) (ask : PlainAsk) (n : ℕ) → observed_target site thing ask ≡ Some n → IsTarget site n
+pub observed_there : (site : Site) (thing : ThingState) (ask : AskSeen) (n : ℕ) → observed_target site thing ask ≡ Some n → IsTarget site n
 observed_there site thing ask n e = by_observe ask.observe e
   where
     by_observe : (o : Option ℕ) → elim o as (λ _. Option ℕ) [ None ↦ None | Some k ↦ target_of ask.request.path site thing.invocations ] ≡ Some n → IsTarget site n

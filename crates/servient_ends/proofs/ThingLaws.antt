@@ -5,16 +5,16 @@ use Rattle.std.proofs.lemmas.List.{append-nil}
 use Rattle.servient_base.specs.Moves.{Then, Becomes}
 use Rattle.wot_json.specs.Tree.{Json}
 use Rattle.thing_ops.specs.declared.outcome.Outcome.{Outcome}
-use Rattle.thing_ops.specs.Requests.{PlainRequest}
+use Rattle.thing_ops.specs.Requests.{RequestSeen}
 use Rattle.thing_handler.specs.declared.handler.CallKind.{CallKind}
 use Rattle.thing_handler.specs.declared.handler.CallKind.TheVariants as call
 use Rattle.thing_handler.specs.declared.handler.Answer.{Answer}
 use Rattle.thing_handler.specs.declared.handler.Answer.TheVariants as answer
 use Rattle.thing_handler.specs.Turns.{HandlerCall}
 use Rattle.thing_site.specs.Site.{Placed, Site}
-use Rattle.thing_core.specs.State.{Status, running, completed, Invocation, State, Emission, Latest, last_after, renewed}
-use Rattle.thing_site.specs.declared.place.Act.{Act}
-use Rattle.thing_site.specs.declared.place.Act.TheVariants.{Describes as describes, ReadsAll as reads_all, WritesMany as writes_many, Reads as reads, Writes as writes, Invokes as invokes, Queries as queries, Cancels as cancels, ReadsEvent as reads_event, Waits as waits}
+use Rattle.thing_core.specs.State.{Status, running, completed, Invocation, State, Emission, LastValue, last_after, renewed}
+use Rattle.thing_site.specs.declared.place.ThingAct.{ThingAct}
+use Rattle.thing_site.specs.declared.place.ThingAct.TheVariants.{Describes as describes, ReadsAll as reads_all, WritesMany as writes_many, Reads as reads, Writes as writes, Invokes as invokes, Queries as queries, Cancels as cancels, ReadsEvent as reads_event, Waits as waits}
 use Rattle.thing_site.specs.Refusals.{Input}
 use Rattle.thing_core.specs.Thing.{Move, Done, Called, no_number, no_memory, gives, failure_of, only, Calls, ReadsValue, with_value, ReadsEach, Emits, SeesWritten, emissions_of_write, Stops, IfDone, WritesEach, IsInvoked, IsQueried, Queries, IsCancelled, Cancels, Performs, Acts, refuses, has_no_memory, performs, PollsEvent, readable, Decides, with_id_used, with_invocations, Completes}
 use Rattle.thing_core.proofs.ReadLaws.{AfterValue}
@@ -38,13 +38,13 @@ same_counted s t ids turns c = let i = c.ids in let n = c.turns in record { ids 
 emitted_none : (s t : State) → t ≡ s → Emitted [] s t
 emitted_none s t e = record { last = ap (λ (x : State). x.last) e; counted = λ c. subst IsCounted (sym e) c }
 
-last_after_both : (a b : List Emission) (last : List Latest) → last_after (a ++ b) last ≡ last_after b (last_after a last)
+last_after_both : (a b : List Emission) (last : List LastValue) → last_after (a ++ b) last ≡ last_after b (last_after a last)
 last_after_both [] b last = refl
 last_after_both (e ∷ a) b last = last_after_both a b (map (renewed e) last)
 
 pub emitted_then : (a b : List Emission) (s m t : State) → Emitted a s m → Emitted b m t → Emitted (a ++ b) s t
 emitted_then a b s m t one two = record {
-  last = two.last ∙ ap (λ (l : List Latest). last_after b l) one.last ∙ sym (last_after_both a b s.last);
+  last = two.last ∙ ap (λ (l : List LastValue). last_after b l) one.last ∙ sym (last_after_both a b s.last);
   counted = λ c. two.counted (one.counted c);
 }
 
@@ -242,7 +242,7 @@ cancels_plain p id (completed output) done s seen t q = invocations_plain done _
 
 -- ---- requests and polls
 
-performs_emit : (act : Act) (q : PlainRequest) (is : List Input) (done : Done) (s : State) (seen : List HandlerCall) (t : State) → Performs act q is done s seen t → Emitted done.emissions s t
+performs_emit : (act : ThingAct) (q : RequestSeen) (is : List Input) (done : Done) (s : State) (seen : List HandlerCall) (t : State) → Performs act q is done s seen t → Emitted done.emissions s t
 performs_emit (describes thing) q is done s seen t x = plain_emits done s t (plain_is done _ s t x.0 x.1.next)
 performs_emit (reads_all thing) q is done s seen t x = plain_emits done s t (each_plain (readable thing) [] done s seen t x)
 performs_emit (writes_many thing) q is done s seen t x = writes_emit is done s seen t x
@@ -256,7 +256,7 @@ performs_emit (reads_event p) q is done s seen t x = plain_emits done s t (plain
 performs_emit (waits p) q is done s seen t x = plain_emits done s t (plain_is done _ s t x.0 x.1.next)
 
 -- The emissions of a request become the last values.
-pub acts_emit : (site : Site) (q : PlainRequest) (done : Done) (s : State) (seen : List HandlerCall) (t : State) → Acts site q done s seen t → Emitted done.emissions s t
+pub acts_emit : (site : Site) (q : RequestSeen) (done : Done) (s : State) (seen : List HandlerCall) (t : State) → Acts site q done s seen t → Emitted done.emissions s t
 acts_emit site q done s seen t (refuses o refused answers) = plain_emits done s t (plain_is done o s t answers.0 answers.1.next)
 acts_emit site q done s seen t (has_no_memory answers) = plain_emits done s t (plain_is done _ s t answers.0 answers.1.next)
 acts_emit site q done s seen t (performs act inputs free asked given does) = performs_emit act q inputs done s seen t does

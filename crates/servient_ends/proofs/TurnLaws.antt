@@ -7,18 +7,18 @@ use Rattle.coap_observe.specs.declared.notice.Notice.{Notice}
 use Rattle.coap_bind.specs.declared.server.Server.{Server}
 use Rattle.coap_bind.specs.Treating.{Acted}
 use Rattle.thing_site.specs.Site.{emitters_of}
-use Rattle.thing_core.specs.State.{State as ThingState, Emission as ThingEmission, Latest}
+use Rattle.thing_core.specs.State.{State as ThingState, Emission as ThingEmission, LastValue}
 use Rattle.servient_outside.specs.declared.net.What.{What}
 use Rattle.servient_outside.specs.declared.net.What.TheVariants as what
 use Rattle.servient_core.specs.Trace.{Sighting}
 use Rattle.servient_core.specs.Machine.{Site, State, start, EndsEvent}
 use Rattle.servient_world.specs.World.{WorldState, WorldMove, ask, due, deliver, pass, elsewhere, emit, Datagram, Emission, server_place, purpose_back, acts_for, id_used, with_sent, Receives, ServerTakes, Comes, to_client, to_server, ComesIfSent, from_elsewhere, comes_elsewhere, ClientAsks, sends_ask, refuses_ask, skips_ask, ClientDoesDue, retransmits, gives_up, waits, ClientTakes, Plays, PlaysAll}
-use Rattle.servient_ends.specs.Ends.{EndsState, IsBeginning, act_of, back_of, emitted_by_datagram, emitted_by, notices_in, as_emission, with_emissions, with_notices, ServientHears, ServientDoes, Turn, asks_next, does_due, delivers, passes, happens, AtClient, Stays, Arrives, ArrivesIfSent, FromElsewhere, comes_from_elsewhere, is_of_an_end, Besides, Takes, TakesAll}
+use Rattle.servient_ends.specs.Ends.{EndsState, IsBeginning, act_of, back_of, emitted_by_datagram, emitted_by, notifications_in, as_emission, with_emissions, with_notifications, ServientHears, ServientDoes, Turn, asks_next, does_due, delivers, passes, happens, AtClient, Stays, Arrives, ArrivesIfSent, FromElsewhere, comes_from_elsewhere, is_of_an_end, Besides, Takes, TakesAll}
 use Rattle.servient_ends.specs.Ends.{too_late as comes_too_late, to_client as comes_to_client, to_servient as comes_to_servient}
 use Rattle.servient_ends.proofs.ThingLaws.{IsCounted, Emitted}
 use Rattle.servient_ends.proofs.LastValues.{has_target, last_has, SayTheLast, say_more, say_nothing}
 use Rattle.servient_ends.proofs.TargetLaws.{IsTarget}
-use Rattle.servient_ends.proofs.KnownWatchers.{WatchesTargets, watches_at_start, watches_received}
+use Rattle.servient_ends.proofs.KnownObservers.{WatchesTargets, watches_at_start, watches_received}
 use Rattle.servient_ends.proofs.StepParts.{with_targets, targets_in, Happened, IsNoDatagram, other_happened, datagram_heard}
 use Rattle.servient_ends.proofs.EndOfEvent.{plays_both, after_emissions, emissions_play, watches_targets, targets_next, Stand, end_plays}
 
@@ -46,20 +46,20 @@ record Turned (site : Site) (p q : EndsState) : Type 0 where
 -- The emissions on an event and its end are moves of the world.
 record Ended (site : Site) (es : List ThingEmission) (ns : List Notice) (w : WorldState) (t : State) : Type 0 where
   moves : List WorldMove
-  plays : PlaysAll moves w (with_notices t.thing ns (with_emissions es (record w { server = t.coap })))
+  plays : PlaysAll moves w (with_notifications t.thing ns (with_emissions es (record w { server = t.coap })))
   moment : t.moment ≡ w.moment
   machine : HoldsOf site (w.emitted ++ map as_emission es) t
 
 ended : (site : Site) (es : List ThingEmission) (w : WorldState) (s m t : State) (seen : List Sighting) (after : Server) → w.server ≡ after
     → m.coap ≡ with_targets (targets_in es) after → m.moment ≡ w.moment → Emitted es s.thing m.thing → HoldsOf site w.emitted s → WatchesTargets site after
-    → (ends : EndsEvent m seen t) → Ended site es (notices_in m seen t ends) w t
+    → (ends : EndsEvent m seen t) → Ended site es (notifications_in m seen t ends) w t
 ended site es w s m t seen after server coap moment emitted h watches ends =
     let middle : WorldState = after_emissions es w in
     let watches_m : WatchesTargets site m.coap = subst (WatchesTargets site) (sym coap) (watches_targets site (targets_in es) after watches) in
     let has_m : (target : ℕ) → IsTarget site target → has_target target m.thing.last ≡ true
-    = λ target is. ap (λ (l : List Latest). has_target target l) emitted.last ∙ (last_has target es s.thing.last ∙ h.has target is) in
+    = λ target is. ap (λ (l : List LastValue). has_target target l) emitted.last ∙ (last_has target es s.thing.last ∙ h.has target is) in
     let says_m : SayTheLast m.thing.last (w.emitted ++ map as_emission es)
-    = subst (λ (l : List Latest). SayTheLast l (w.emitted ++ map as_emission es)) (sym emitted.last) (say_more es s.thing.last w.emitted h.says) in
+    = subst (λ (l : List LastValue). SayTheLast l (w.emitted ++ map as_emission es)) (sym emitted.last) (say_more es s.thing.last w.emitted h.says) in
     let stand : Stand site m.thing middle m = record {
       server = ap (λ (x : Server). with_targets (targets_in es) x) server ∙ sym coap;
       moment = sym moment;
@@ -71,7 +71,7 @@ ended site es w s m t seen after server coap moment emitted h watches ends =
     let n = end_plays site m.thing m t seen ends middle stand in
     record {
       moves = map (λ e. emit (as_emission e)) es ++ n.moves;
-      plays = subst (λ (x : ThingState). PlaysAll (map (λ e. emit (as_emission e)) es ++ n.moves) w (with_notices x (notices_in m seen t ends) (with_emissions es (record w { server = t.coap }))))
+      plays = subst (λ (x : ThingState). PlaysAll (map (λ e. emit (as_emission e)) es ++ n.moves) w (with_notifications x (notifications_in m seen t ends) (with_emissions es (record w { server = t.coap }))))
           (sym n.things) (plays_both (map (λ e. emit (as_emission e)) es) n.moves w middle _ (emissions_play es w) n.plays);
       moment = n.moment ∙ moment;
       machine = record {
@@ -128,8 +128,8 @@ hears_turn site d size move p q as_move h it =
     let e = ended site es w1 s1 mid q.servient step.second heard.after refl heard.coap (heard.moment ∙ at) heard.thing h2 watches step.other in
     let ids : id_used p.servient.coap mid.coap ≡ id_used p.world.server heard.after
     = used_same p.servient.coap mid.coap p.world.server heard.after (ap (λ (x : Server). x.next_id) (sym h.server)) (ap (λ (x : Server). x.next_id) heard.coap ∙ targets_next (targets_in es) heard.after) in
-    let next : q.world ≡ with_notices q.servient.thing (notices_in mid step.second q.servient step.other) (with_emissions es (record w1 { server = q.servient.coap }))
-    = it.next ∙ ap (λ (n : ℕ). with_notices q.servient.thing (notices_in mid step.second q.servient step.other) (with_emissions es (with_sent (record p.world {
+    let next : q.world ≡ with_notifications q.servient.thing (notifications_in mid step.second q.servient step.other) (with_emissions es (record w1 { server = q.servient.coap }))
+    = it.next ∙ ap (λ (n : ℕ). with_notifications q.servient.thing (notifications_in mid step.second q.servient step.other) (with_emissions es (with_sent (record p.world {
       server = q.servient.coap;
       acts = p.world.acts ++ acts_for d.purpose act;
       ids = p.world.ids + n;

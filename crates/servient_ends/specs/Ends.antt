@@ -24,7 +24,7 @@ use Rattle.servient_outside.specs.declared.net.Act.TheVariants as act
 use Rattle.servient_outside.specs.Network.{Happening, heard, did, broke}
 use Rattle.servient_core.specs.declared.capacity.TheConstants.{MOST_WATCHERS}
 use Rattle.servient_core.specs.Trace.{Sighting, at_network, at_handler}
-use Rattle.servient_core.specs.Machine.{Site, State, start, Move, observed_target, notice_bytes, AnswersDatagram, HearsDatagram, AnswersTaken, TakesNextMessage, PollsAndDelivers, SendsNotification, NothingIsDue, EndsEvent, Follows, EventAndStep}
+use Rattle.servient_core.specs.Machine.{Site, State, start, Move, observed_target, notification_bytes, AnswersDatagram, HearsDatagram, AnswersTaken, TakesNextMessage, PollsAndDelivers, SendsNotification, NothingIsDue, EndsEvent, Follows, EventAndStep}
 use Rattle.servient_world.specs.World.{WorldState, Datagram, Purpose, Emission, client_place, server_place, is_end, other, purpose_of, purpose_back, acts_for, id_used, with_sent, may_come, IsStart, ClientAsks, ClientDoesDue, ClientTakes}
 
 -- Both ends at a moment: the world, and the machine of which its server is a part.
@@ -104,8 +104,8 @@ emitted_by site what.Tick bytes s seen t f = emitted_by_polls (events_of site) s
 emitted_by site what.Stop bytes s seen t f = []
 
 -- the notifications that were sent at the end of an event, in order
-abbrev pub notices_in : (s : State) (seen : List Sighting) (t : State) → EndsEvent s seen t → List Notice
-notices_in s seen t ends = along SendsNotification NothingIsDue (λ u shown v sends. sends.0 ∷ []) s ends.one.first ends.one.mid ends.one.one
+abbrev pub notifications_in : (s : State) (seen : List Sighting) (t : State) → EndsEvent s seen t → List Notice
+notifications_in s seen t ends = along SendsNotification NothingIsDue (λ u shown v sends. sends.0 ∷ []) s ends.one.first ends.one.mid ends.one.one
 
 -- ---- the world after a step
 
@@ -118,12 +118,12 @@ fresh_among [] = 0
 fresh_among (n ∷ ns) = one_if n.fresh + fresh_among ns
 
 -- a notification as it was sent, where this was the state of the Things
-abbrev pub notice_of : WorldState → ThingState → Notice → Datagram
-notice_of w thing n = record {
+abbrev pub notification_of : WorldState → ThingState → Notice → Datagram
+notification_of w thing n = record {
   moment = w.moment;
   from = server_place;
   to = n.to;
-  bytes = notice_bytes n thing;
+  bytes = notification_bytes n thing;
   purpose = purpose_of n w.asks w.emitted;
 }
 
@@ -132,8 +132,8 @@ abbrev pub with_emissions : List ThingEmission → WorldState → WorldState
 with_emissions es w = record w { emitted = w.emitted ++ map as_emission es }
 
 -- these notifications were sent
-abbrev pub with_notices : ThingState → List Notice → WorldState → WorldState
-with_notices thing ns w = record w { sent = w.sent ++ map (notice_of w thing) ns; ids = w.ids + fresh_among ns }
+abbrev pub with_notifications : ThingState → List Notice → WorldState → WorldState
+with_notifications thing ns w = record w { sent = w.sent ++ map (notification_of w thing) ns; ids = w.ids + fresh_among ns }
 
 -- the event of the machine that this is, when it comes at a moment
 abbrev pub event_at : ℕ → What → List ℕ → EventWithBytes
@@ -143,7 +143,7 @@ event_at now w bytes = record { event = record { moment = now; what = w }; bytes
 pub record ServientHears (site : Site) (from : Endpoint) (size : ℕ) (bytes : List ℕ) (purpose : Purpose) (p q : EndsState) : Type 0 where
   pub seen : List Sighting
   pub step : EventAndStep site (event_at p.world.moment (what.Datagram from size) bytes) p.servient seen q.servient
-  pub next : q.world ≡ with_notices q.servient.thing (notices_in step.other.mid step.other.second q.servient step.other.other)
+  pub next : q.world ≡ with_notifications q.servient.thing (notifications_in step.other.mid step.other.second q.servient step.other.other)
       (with_emissions (emitted_by_datagram site from bytes _ step.other.first step.other.mid step.other.one)
       (with_sent (record p.world {
         server = q.servient.coap;
@@ -155,7 +155,7 @@ pub record ServientHears (site : Site) (from : Endpoint) (size : ℕ) (bytes : L
 pub record ServientDoes (site : Site) (w : What) (bytes : List ℕ) (p q : EndsState) : Type 0 where
   pub seen : List Sighting
   pub step : EventAndStep site (event_at p.world.moment w bytes) p.servient seen q.servient
-  pub next : q.world ≡ with_notices q.servient.thing (notices_in step.other.mid step.other.second q.servient step.other.other)
+  pub next : q.world ≡ with_notifications q.servient.thing (notifications_in step.other.mid step.other.second q.servient step.other.other)
       (with_emissions (emitted_by site w bytes _ step.other.first step.other.mid step.other.one)
       (record p.world { server = q.servient.coap }))
 

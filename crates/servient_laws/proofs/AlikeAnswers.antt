@@ -21,8 +21,8 @@ use Rattle.coap_opts.specs.declared.fault.AskFault.TheVariants as fault
 use Rattle.thing_ops.specs.declared.outcome.Outcome.TheVariants.{Memory}
 use Rattle.coap_bind.specs.declared.pending.PendingReply.{PendingReply}
 use Rattle.coap_bind.specs.declared.server.Server.{Server}
-use Rattle.coap_bind.specs.declared.blocks.Wanted.{Wanted}
-use Rattle.coap_bind.specs.declared.blocks.Wanted.TheVariants.{Act, LaterBlock, Joining}
+use Rattle.coap_bind.specs.declared.blocks.BlockWish.{BlockWish}
+use Rattle.coap_bind.specs.declared.blocks.BlockWish.TheVariants.{Act, LaterBlock, Joining}
 use Rattle.coap_bind.specs.Blocks.{block_reply, later_reply, added_reply}
 use Rattle.coap_bind.specs.Links.{method_reply}
 use Rattle.coap_bind.specs.Writing.{Reply, proxy_reply, option_reply, reply_of, coap_reply, ReplyHead, head_in}
@@ -34,7 +34,7 @@ use Rattle.servient_laws.proofs.AlikeTables.{IsLast, same_with_reply}
 
 pub same_id_used : (kind : RequestType) (s t : Server) → SameServer s t → SameServer (with_id_used kind s) (with_id_used kind t)
 same_id_used Confirmable s t same = same
-same_id_used NonConfirmable s t same = record { table = same.table; watchers = same.watchers; next = ap (λ (n : ℕ). (n + 1) % 65536) same.next; bodies = same.bodies; parts = same.parts; links = same.links }
+same_id_used NonConfirmable s t same = record { table = same.table; observers = same.observers; next = ap (λ (n : ℕ). (n + 1) % 65536) same.next; bodies = same.bodies; parts = same.parts; links = same.links }
 
 pub moved : (s t u v : Server) → u ≡ s → v ≡ t → SameServer s t → SameServer u v
 moved s t u v one other same = subst (λ (x : Server). SameServer u x) (sym other) (subst (λ (x : Server). SameServer x t) (sym one) same)
@@ -43,7 +43,7 @@ same_kept : (kind : RequestType) (slot other : ℕ) (bytes : List ℕ) (s t : Se
     → SameServer (with_kept kind slot bytes (with_id_used kind s)) (with_kept kind other bytes (with_id_used kind t))
 same_kept Confirmable slot other bytes s t same l k = record {
   table = same_with_reply slot other bytes s.exchanges t.exchanges same.table l k;
-  watchers = same.watchers;
+  observers = same.observers;
   next = same.next;
   bodies = same.bodies;
   parts = same.parts;
@@ -163,7 +163,7 @@ is_get : (code : ℕ) → code ≡ GET → (code == GET) ≡ true
 is_get code get = grind (arith, nat_tests)
 
 -- it follows from the first fault and from what the request wants
-abbrev at_once : Endpoint → ℕ → CoapMessage → List Body → List Part → Option AskFault → Wanted → Option AtOnce
+abbrev at_once : Endpoint → ℕ → CoapMessage → List Body → List Part → Option AskFault → BlockWish → Option AtOnce
 at_once from now m bodies parts (Some (BadOption number)) wants = Some (option_reply number, parts)
 at_once from now m bodies parts (Some fault.Block) wants = Some (block_reply, parts)
 at_once from now m bodies parts (Some Proxy) wants = Some (proxy_reply, parts)
@@ -192,21 +192,21 @@ answered_by from now m r s parts ample (for_proxy first is same) =
     ap (λ (f : Option AskFault). at_once from now m s.bodies s.parts f (wanted_in m)) first ∙ some_pair proxy_reply r s.parts parts (sym is) (sym same)
 answered_by from now m r s parts ample (no_memory none is same) = absurd (ample is)
 answered_by from now m r s parts ample (later_block b none wants is same) =
-    ap₂ (λ (f : Option AskFault) (w : Wanted). at_once from now m s.bodies s.parts f w) (no_fault m none) wants
+    ap₂ (λ (f : Option AskFault) (w : BlockWish). at_once from now m s.bodies s.parts f w) (no_fault m none) wants
     ∙ some_pair (later_reply b (option_map (λ x. x.content) (body_for from (what_is_asked m).request.path now s.bodies))) r s.parts parts (sym is) (sym same)
 answered_by from now m r s parts ample (joined b added none wants adds is) =
     let x : Added × List Part = after_block (block_arrival from now m b) (living now s.parts) in
     let said : added_reply b x.0 ≡ Some r = ap (added_reply b) (sym adds.answer_is) ∙ is in
-    ap₂ (λ (f : Option AskFault) (w : Wanted). at_once from now m s.bodies s.parts f w) (no_fault m none) wants
+    ap₂ (λ (f : Option AskFault) (w : BlockWish). at_once from now m s.bodies s.parts f w) (no_fault m none) wants
     ∙ join_some (asks_links m) b x r said
     ∙ some_pair r r x.1 parts refl (sym adds.parts_are)
 answered_by from now m r s parts ample (takes_no_other_verb none wants links other is same) =
-    ap₂ (λ (f : Option AskFault) (w : Wanted). at_once from now m s.bodies s.parts f w) (no_fault m none) wants
+    ap₂ (λ (f : Option AskFault) (w : BlockWish). at_once from now m s.bodies s.parts f w) (no_fault m none) wants
     ∙ ap₂ (λ (l g : Bool). act_at l g s.parts) links (not_get m.code other)
     ∙ some_pair method_reply r s.parts parts (sym is) (sym same)
 answered_by from now m r s parts ample (takes_no_body b place whole none wants links adds is same) =
     let x : Added × List Part = after_block (block_arrival from now m b) (living now s.parts) in
-    ap₂ (λ (f : Option AskFault) (w : Wanted). at_once from now m s.bodies s.parts f w) (no_fault m none) wants
+    ap₂ (λ (f : Option AskFault) (w : BlockWish). at_once from now m s.bodies s.parts f w) (no_fault m none) wants
     ∙ join_whole (asks_links m) b x place links (sym adds.answer_is)
     ∙ some_pair method_reply r (remove x.1 place) parts (sym is) (ap (λ (ps : List Part). remove ps place) (sym adds.parts_are) ∙ sym same)
 
@@ -231,7 +231,7 @@ pub not_asked : (from : Endpoint) (now : ℕ) (m : CoapMessage) (r : Reply) (s :
     → faults_of m.options ≡ [] → wanted_in m ≡ Act → act_at (asks_links m) (m.code == GET) s.parts ≡ None → ⊥
 not_asked from now m r s parts ample why none acts silent =
     let is = answered_by from now m r s parts ample why in
-    let isnt : at_once_by from now m s ≡ None = ap₂ (λ (f : Option AskFault) (w : Wanted). at_once from now m s.bodies s.parts f w) (no_fault m none) acts ∙ silent in
+    let isnt : at_once_by from now m s ≡ None = ap₂ (λ (f : Option AskFault) (w : BlockWish). at_once from now m s.bodies s.parts f w) (no_fault m none) acts ∙ silent in
     cc
 
 -- a request that is asked, and one that the links are given to
@@ -249,7 +249,7 @@ not_whole from now m r s parts rest b place ample why none joins apart adds =
     let x : Added × List Part = after_block (block_arrival from now m b) (living now s.parts) in
     let silent : added_reply b x.0 ≡ None = ap (added_reply b) (sym adds.answer_is) in
     let isnt : at_once_by from now m s ≡ None
-    = ap₂ (λ (f : Option AskFault) (w : Wanted). at_once from now m s.bodies s.parts f w) (no_fault m none) joins
+    = ap₂ (λ (f : Option AskFault) (w : BlockWish). at_once from now m s.bodies s.parts f w) (no_fault m none) joins
     ∙ ap (λ (l : Bool). join_at l b x) apart
     ∙ ap (λ (o : Option Reply). option_map (λ (q : Reply). both_of q x.1) o) silent in
     cc

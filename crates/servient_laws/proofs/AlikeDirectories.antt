@@ -10,7 +10,7 @@ use Rattle.wot_terms.specs.Faults.{IsValid}
 use Rattle.wot_terms.specs.declared.fault.TdFault.{TdFault}
 use Rattle.thing_ops.specs.declared.outcome.Outcome.{Outcome}
 use Rattle.thing_ops.specs.declared.outcome.Outcome.TheVariants as outcome
-use Rattle.thing_ops.specs.Requests.{PlainRequest}
+use Rattle.thing_ops.specs.Requests.{RequestSeen}
 use Rattle.wot_directory.specs.Contents.{Contents, Entries, most_entries}
 use Rattle.wot_directory.specs.Directory.{id_of, IsFirstFault, HasRoom, with_entry, HasPutFault, Puts, IsLeastUnused, AreAllUsed, IsNextNumber, local_id, number_after, HasCreateFault, Creates, IsPatched, HasPatchFault, Patches, HasRemoveFault}
 use Rattle.wot_directory.specs.declared.fault.DirFault.{DirFault}
@@ -214,7 +214,7 @@ removes_once id o p d t u (inr (f, a, is, after)) (inr (g, b, is', after')) =
 pub same_value : (body : List ℕ) (v w : Json) → tree_of body ≡ Some v → tree_of body ≡ Some w → w ≡ v
 same_value body v w a b = same_Some w v (sym b ∙ a)
 
-pub performed_once : (a : DirectoryAct) (q : PlainRequest) (o p : Outcome) (d t u : Contents) → HadMemory o → HadMemory p → Performs a q o d t → Performs a q p d u → Same o p t u
+pub performed_once : (a : DirectoryAct) (q : RequestSeen) (o p : Outcome) (d t u : Contents) → HadMemory o → HadMemory p → Performs a q o d t → Performs a q p d u → Same o p t u
 performed_once act.Lists q o p d t u on_o on_p a b = record { outcome = a.0 ∙ sym b.0; contents = a.1 ∙ sym b.1 }
 performed_once act.Creates q o p d t u on_o on_p (v, read, a) (w, read', b) =
     creates_once v o p d t u on_o on_p a (subst (λ (x : Json). CreatesEntry x p d u) (same_value q.body v w read read') b)

@@ -13,11 +13,11 @@ use Rattle.servient_outside.specs.declared.net.Act.{Act}
 use Rattle.servient_outside.specs.declared.net.Act.TheVariants as act
 use Rattle.servient_outside.specs.Network.{did}
 use Rattle.servient_core.specs.Trace.{Sighting, at_network}
-use Rattle.servient_core.specs.Machine.{State, OnHttp, OnCoap, Does, acts_of_reply, Sends, SendsIfAny, RepliesToWait, AnswersWait, MarksWatchers, Delivers, DeliversEach, ClosesIdle, notice_bytes, SendsNotification, NothingIsDue, SendsNotifications, AnswersLateWait, EndsEvent}
+use Rattle.servient_core.specs.Machine.{State, OnHttp, OnCoap, Does, acts_of_reply, Sends, SendsIfAny, RepliesToWait, AnswersWait, MarksObservers, Delivers, DeliversEach, ClosesIdle, notification_bytes, SendsNotification, NothingIsDue, SendsNotifications, AnswersLateWait, EndsEvent}
 use Rattle.servient_core.specs.Keeping.{AnswersWaits, ClosesAllIdle, AnswersLateWaits}
 use Rattle.servient_laws.proofs.AlikeStates.{Alike, SameServer, Agree, AgreeAs, coap_changed, becomes_agree, joined, then_agree, each_agree, until_agree, passing_same, on_http, coap_agree}
 use Rattle.servient_laws.proofs.AlikeStreams.{woken_once, none_idle}
-use Rattle.servient_laws.proofs.AlikeWatchers.{SameNotices, same_emitted, same_next, same_bytes}
+use Rattle.servient_laws.proofs.AlikeObservers.{SameNotifications, same_emitted, same_next, same_bytes}
 
 -- ---- acts
 
@@ -71,20 +71,20 @@ lates_agree answers =
 
 -- ---- new values
 
-marks_agree : (answers : ℕ → Answer) (target : ℕ) → AgreeAs answers (MarksWatchers target) (MarksWatchers target)
+marks_agree : (answers : ℕ → Answer) (target : ℕ) → AgreeAs answers (MarksObservers target) (MarksObservers target)
 marks_agree answers target =
     coap_agree answers (λ now before after. after ≡ with_emitted target before)
     (λ now c d e f same one other. subst (λ (x : Server). SameServer e x) (sym other) (subst (λ (x : Server). SameServer x (with_emitted target d)) (sym one) (same_emitted target c d same)))
 
 delivers_agree : (answers : ℕ → Answer) (target : ℕ) → AgreeAs answers (Delivers target) (Delivers target)
-delivers_agree answers target = then_agree answers (AnswersWaits target) (AnswersWaits target) (MarksWatchers target) (MarksWatchers target) (waits_agree answers target) (marks_agree answers target)
+delivers_agree answers target = then_agree answers (AnswersWaits target) (AnswersWaits target) (MarksObservers target) (MarksObservers target) (waits_agree answers target) (marks_agree answers target)
 
 pub deliveries_agree : (answers : ℕ → Answer) (emissions : List Emission) → AgreeAs answers (DeliversEach emissions) (DeliversEach emissions)
 deliveries_agree answers emissions = each_agree answers Delivers (map (λ e. e.target) emissions) (delivers_agree answers)
 
 -- ---- notifications
 
-next_of : (s t : State) (o p : Option Notice) (c d : Server) → Alike s t → SendsNext s.moment o s.coap c → SendsNext t.moment p t.coap d → SameNotices o p × SameServer c d
+next_of : (s t : State) (o p : Option Notice) (c d : Server) → Alike s t → SendsNext s.moment o s.coap c → SendsNext t.moment p t.coap d → SameNotifications o p × SameServer c d
 next_of s t o p c d alike one other = same_next s.moment o p s.coap t.coap c d alike.coap one (subst (λ (now : ℕ). SendsNext now p t.coap d) (sym alike.moment) other)
 
 notification_agrees : (answers : ℕ → Answer) → AgreeAs answers SendsNotification SendsNotification
@@ -93,9 +93,9 @@ notification_agrees answers s t u v a b alike (n, p) (k, q) on_a on_b =
     let first : Agree p.first q.first p.mid q.mid =
     becomes_agree (record s { coap = p.one.0 }) (record t { coap = q.one.0 }) p.mid q.mid [] [] p.first q.first (coap_changed s t p.one.0 q.one.0 alike both.1) refl p.one.2 q.one.2 in
     let values = ap₂ (λ (x : ThingState) (target : ℕ). unwrap_or (last_of target x.last) []) alike.thing both.0.target in
-    let bytes : notice_bytes n s.thing ≡ notice_bytes k t.thing = same_bytes n k (unwrap_or (last_of n.target s.thing.last) []) (unwrap_or (last_of k.target t.thing.last) []) both.0 values in
+    let bytes : notification_bytes n s.thing ≡ notification_bytes k t.thing = same_bytes n k (unwrap_or (last_of n.target s.thing.last) []) (unwrap_or (last_of k.target t.thing.last) []) both.0 values in
     let second : Agree p.second q.second u v =
-    becomes_agree p.mid q.mid u v (at_network (did (act.Datagram n.to (notice_bytes n s.thing))) ∷ []) (at_network (did (act.Datagram k.to (notice_bytes k t.thing))) ∷ []) p.second q.second first.state
+    becomes_agree p.mid q.mid u v (at_network (did (act.Datagram n.to (notification_bytes n s.thing))) ∷ []) (at_network (did (act.Datagram k.to (notification_bytes k t.thing))) ∷ []) p.second q.second first.state
     (ap₂ (λ to (x : List ℕ). at_network (did (act.Datagram to x)) ∷ []) both.0.to bytes) p.other q.other in
     joined p.first q.first p.second q.second a b p.mid q.mid u v first second p.whole q.whole
 

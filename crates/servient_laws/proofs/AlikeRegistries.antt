@@ -7,7 +7,7 @@ use Rattle.wot_json.specs.Merge.{merge}
 use Rattle.wot_terms.specs.Faults.{IsValid}
 use Rattle.thing_ops.specs.declared.outcome.Outcome.{Outcome}
 use Rattle.thing_ops.specs.declared.outcome.Outcome.TheVariants as outcome
-use Rattle.thing_ops.specs.Requests.{PlainRequest}
+use Rattle.thing_ops.specs.Requests.{RequestSeen}
 use Rattle.wot_directory.specs.Contents.{Contents}
 use Rattle.wot_directory.specs.Directory.{id_of, IsFirstFault, local_id}
 use Rattle.wot_directory.specs.declared.fault.DirFault.{DirFault}
@@ -196,7 +196,7 @@ removes_at_once id o p r s u (inr (f, a, is, after)) (inr (g, b, is', after')) =
 
 -- ---- acts
 
-pub performed_at_once : (a : DirectoryAct) (q : PlainRequest) (now : ℕ) (o p : Outcome) (r s u : Registered) → HadMemory o → HadMemory p
+pub performed_at_once : (a : DirectoryAct) (q : RequestSeen) (now : ℕ) (o p : Outcome) (r s u : Registered) → HadMemory o → HadMemory p
     → PerformsAt a q now o r s → PerformsAt a q now p r u → Same o p s u
 performed_at_once act.Lists q now o p r s u on_o on_p a b = record { outcome = a.0 ∙ sym b.0; contents = a.1 ∙ sym b.1 }
 performed_at_once act.Creates q now o p r s u on_o on_p (v, read, a) (w, read', b) =

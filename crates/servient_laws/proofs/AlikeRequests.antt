@@ -3,7 +3,7 @@ use Rattle.std.proofs.Common.{◌≡◌, ℕ, Bool, true, false, List, [], ◌�
 use Rattle.std.specs.List.{AllByRecursion}
 use Rattle.wot_json.specs.Meaning.{json_of}
 use Rattle.thing_ops.specs.declared.outcome.Outcome.{Outcome}
-use Rattle.thing_ops.specs.Requests.{PlainRequest}
+use Rattle.thing_ops.specs.Requests.{RequestSeen}
 use Rattle.thing_ops.specs.Routes.{route_of}
 use Rattle.thing_handler.specs.declared.handler.CallKind.{CallKind}
 use Rattle.thing_handler.specs.declared.handler.CallKind.TheVariants as call
@@ -48,7 +48,7 @@ misses_are answers calls a saw fits = none_missed calls (subst (λ (x : List Sig
 
 -- ---- requests to Things
 
-pub by_things : (answers : ℕ → Answer) (site : Site) (q : PlainRequest) (x y : Done) (s t u v : State) (a b : List Sighting) → Alike s t
+pub by_things : (answers : ℕ → Answer) (site : Site) (q : RequestSeen) (x y : Done) (s t u v : State) (a b : List Sighting) → Alike s t
     → Performs site q x s a u → Performs site q y t b v → Fits answers a → Fits answers b → WasAmple x → WasAmple y → (x ≡ y) × Agree a b u v
 by_things answers site q x y s t u v a b alike (k, calls, p, at) (l, more, r, at') on_a on_b on_x on_y =
     let same = determined site q answers x y s.thing k l calls more p (subst (λ (z : ThingState). Acts site q y z more l) (sym alike.thing) r)
@@ -63,7 +63,7 @@ by_things answers site q x y s t u v a b alike (k, calls, p, at) (l, more, r, at
 same_done : (x y : Done) → x.outcome ≡ y.outcome → x.emissions ≡ y.emissions → x ≡ y
 same_done x y e f = ap₂ (λ (o : Outcome) (es : List Emission). record { outcome = o; emissions = es }) e f
 
-by_directory : (q : PlainRequest) (x y : Done) (s t u v : State) (a b : List Sighting) → Alike s t
+by_directory : (q : RequestSeen) (x y : Done) (s t u v : State) (a b : List Sighting) → Alike s t
     → PerformsOnDirectory q x s a u → PerformsOnDirectory q y t b v → WasAmple x → WasAmple y → (x ≡ y) × Agree a b u v
 by_directory q x y s t u v a b alike (d, p, none, at) (e, r, none', at') on_x on_y =
     let same = directory_determined q s.moment x.outcome y.outcome s.directory d e on_x on_y p
@@ -74,7 +74,7 @@ never : (b : Bool) → b ≡ true → b ≡ false → ⊥
 never true is isnt = absurd cc
 never false is isnt = absurd cc
 
-pub by_http : (answers : ℕ → Answer) (site : Site) (q : PlainRequest) (x y : Done) (s t u v : State) (a b : List Sighting) → Alike s t
+pub by_http : (answers : ℕ → Answer) (site : Site) (q : RequestSeen) (x y : Done) (s t u v : State) (a b : List Sighting) → Alike s t
     → PerformsByHttp site q x s a u → PerformsByHttp site q y t b v → Fits answers a → Fits answers b → WasAmple x → WasAmple y → (x ≡ y) × Agree a b u v
 by_http answers site q x y s t u v a b alike (inl p) (inl r) on_a on_b on_x on_y = by_directory q x y s t u v a b alike p.1 r.1 on_x on_y
 by_http answers site q x y s t u v a b alike (inr p) (inr r) on_a on_b on_x on_y = by_things answers site q x y s t u v a b alike p.1 r.1 on_a on_b on_x on_y

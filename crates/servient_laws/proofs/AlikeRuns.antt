@@ -12,7 +12,7 @@ use Rattle.thing_site.specs.Site.{events_of}
 use Rattle.thing_core.specs.State.{State as ThingState}
 use Rattle.thing_core.specs.Thing.{Done}
 use Rattle.thing_core.specs.Determined.{HadMemory as WasAmple}
-use Rattle.coap_opts.specs.Reading.{PlainAsk}
+use Rattle.coap_opts.specs.Reading.{AskSeen}
 use Rattle.coap_bind.specs.declared.pending.PendingReply.{PendingReply}
 use Rattle.coap_bind.specs.declared.observing.Observing.{Observing}
 use Rattle.coap_bind.specs.declared.observing.Observing.TheVariants as observing
@@ -41,7 +41,7 @@ use Rattle.servient_laws.specs.Determined.{TellsOfMemory, by_coap, by_http, HadM
 use Rattle.servient_laws.proofs.AlikeStates.{Alike, Agree, AgreeAs, alike_self, coap_changed, fits_first, fits_rest, becomes_agree, joined, then_agree, each_agree, until_agree, passing_agree, passing_same, on_http, http_agree}
 use Rattle.servient_laws.proofs.AlikeAnswers.{SameAsk, SameHeard, IsAmple}
 use Rattle.servient_laws.proofs.AlikeServers.{same_hearing}
-use Rattle.servient_laws.proofs.AlikeWatchers.{same_answers}
+use Rattle.servient_laws.proofs.AlikeObservers.{same_answers}
 use Rattle.servient_laws.proofs.AlikeStreams.{taken_once, dry_takes, answered_once}
 use Rattle.servient_laws.proofs.AlikeMoves.{does_agree, sends_agree, if_any_agree, deliveries_agree, ends_agree}
 use Rattle.servient_laws.proofs.AlikeRequests.{by_things, by_http as performed_by_http, poll_agrees}
@@ -71,13 +71,13 @@ memory_is_whole (blocks.Gives g) = refl
 memory_is_whole (blocks.Joined b) = refl
 
 -- an answer that isn't the one for want of memory was of a request that wasn't out of it
-ask_is_ample : (answers : ℕ → Answer) (site : Site) (from : Endpoint) (ask : PlainAsk) (r : PendingReply) (done : Done) (s u : State) (a : List Sighting) → AnswersAsk site from ask r done s a u → Fits answers a
+ask_is_ample : (answers : ℕ → Answer) (site : Site) (from : Endpoint) (ask : AskSeen) (r : PendingReply) (done : Done) (s u : State) (a : List Sighting) → AnswersAsk site from ask r done s a u → Fits answers a
     → WasAmple done
 ask_is_ample answers site from ask r done s u a (bytes, w) fits memory =
     let of_memory : Answers r outcome.Memory (observed_target site s.thing ask) bytes s.coap w.one.0 =
     subst (λ (o : Outcome). Answers r o (observed_target site s.thing ask) bytes s.coap w.one.0) memory w.one.1 in
     let none : of_memory.observe ≡ None =
-    no_number (effect_of r.observing outcome.Memory (observed_target site s.thing ask)) r.from r.token s.coap.watchers of_memory.watchers of_memory.observe
+    no_number (effect_of r.observing outcome.Memory (observed_target site s.thing ask)) r.from r.token s.coap.observers of_memory.observers of_memory.observe
     (no_effect r.observing (observed_target site s.thing ask)) of_memory.watches in
     let is : bytes ≡ spelling (coap_reply (reply_of outcome.Memory) (head_in r) s.coap.next_id) =
     of_memory.replies.bytes_are
@@ -86,7 +86,7 @@ ask_is_ample answers site from ask r done s u a (bytes, w) fits memory =
     told answers (act.Datagram from bytes) [] w.second w.other.saw (fits_rest answers w.first w.second a w.whole fits)
     (by_coap from (head_in r) s.coap.next_id (ap (λ (x : List ℕ). act.Datagram from x) is))
 
-answer_agrees : (site : Site) (from : Endpoint) (ask : PlainAsk) (r q : PendingReply) (done : Done) (s t u v : State) (a b : List Sighting) → Alike s t → SameAsk r q s.coap t.coap
+answer_agrees : (site : Site) (from : Endpoint) (ask : AskSeen) (r q : PendingReply) (done : Done) (s t u v : State) (a b : List Sighting) → Alike s t → SameAsk r q s.coap t.coap
     → AnswersAsk site from ask r done s a u → AnswersAsk site from ask q done t b v → Agree a b u v
 answer_agrees site from ask r q done s t u v a b alike same (x, w) (y, z) =
     let there : Answers q done.outcome (observed_target site s.thing ask) y t.coap z.one.0 =
@@ -100,7 +100,7 @@ answer_agrees site from ask r q done s t u v a b alike same (x, w) (y, z) =
     joined w.first z.first w.second z.second a b w.mid z.mid u v first second w.whole z.whole
 
 -- a request is performed, answered and delivered
-asked_agrees : (answers : ℕ → Answer) (site : Site) (from : Endpoint) (ask : PlainAsk) (r q : PendingReply) (s t u v : State) (a b : List Sighting) → Alike s t → SameAsk r q s.coap t.coap
+asked_agrees : (answers : ℕ → Answer) (site : Site) (from : Endpoint) (ask : AskSeen) (r q : PendingReply) (s t u v : State) (a b : List Sighting) → Alike s t → SameAsk r q s.coap t.coap
     → AnswersDatagram site from (asked ask r) s a u → AnswersDatagram site from (asked ask q) t b v → Fits answers a → Fits answers b → Agree a b u v
 asked_agrees answers site from ask r q s t u v a b alike same (x, p) (y, w) on_a on_b =
     let a_two = fits_rest answers p.first p.second a p.whole on_a in
@@ -129,7 +129,7 @@ heard_agrees answers site from (answered_at_once x) (answered_at_once y) s t u v
     becomes_agree s t u v (at_network (did (act.Datagram from x)) ∷ []) (at_network (did (act.Datagram from y)) ∷ []) a b alike
     (ap (λ (bytes : List ℕ). at_network (did (act.Datagram from bytes)) ∷ []) same) p q
 heard_agrees answers site from (asked ask r) (asked other q) s t u v a b same alike p w on_a on_b =
-    asked_agrees answers site from ask r q s t u v a b alike same.1 p (subst (λ (x : PlainAsk). AnswersDatagram site from (asked x q) t b v) (sym same.0) w) on_a on_b
+    asked_agrees answers site from ask r q s t u v a b alike same.1 p (subst (λ (x : AskSeen). AnswersDatagram site from (asked x q) t b v) (sym same.0) w) on_a on_b
 heard_agrees answers site from ignored (answered_at_once y) s t u v a b same alike p q on_a on_b = absurd same
 heard_agrees answers site from ignored (asked other q) s t u v a b same alike p w on_a on_b = absurd same
 heard_agrees answers site from (answered_at_once x) ignored s t u v a b same alike p q on_a on_b = absurd same

@@ -18,14 +18,14 @@ use Rattle.coap_observe.specs.Watching.{Watching}
 use Rattle.coap_blocks.specs.Bodies.{Body}
 use Rattle.coap_blocks.specs.Parts.{Part}
 use Rattle.coap_blocks.specs.declared.added.Added.TheVariants as added
-use Rattle.coap_opts.specs.Reading.{PlainAsk, faults_of, asked as what_is_asked}
+use Rattle.coap_opts.specs.Reading.{AskSeen, faults_of, asked as what_is_asked}
 use Rattle.coap_opts.specs.declared.fault.AskFault.TheVariants.{BadOption}
 use Rattle.thing_ops.specs.declared.outcome.Outcome.TheVariants.{Memory}
 use Rattle.coap_bind.specs.declared.pending.PendingReply.{PendingReply}
 use Rattle.coap_bind.specs.declared.server.Server.{Server}
 use Rattle.coap_bind.specs.declared.blocks.BlockUse.TheVariants as blocks
-use Rattle.coap_bind.specs.declared.blocks.Wanted.TheVariants.{Act, Joining}
-use Rattle.coap_bind.specs.Links.{size_asked, links_reply, watchers_with_links, bodies_with_links}
+use Rattle.coap_bind.specs.declared.blocks.BlockWish.TheVariants.{Act, Joining}
+use Rattle.coap_bind.specs.Links.{size_asked, links_reply, observers_with_links, bodies_with_links}
 use Rattle.coap_bind.specs.Writing.{Reply, full_reply, reply_of, head_of, coap_reply, ReplyHead}
 use Rattle.coap_bind.specs.Server.{Heard, ignored, answered_at_once, asked, with_id_used, Replies, told_by, with_report, replied_at_once, is_request, duplicate_reply, arrival, IsMet, malformed, no_request, duplicate, full, observing_in, pending_of, pending_joined, with_whole_body, Adds, with_parts, asks_links, links_given, Reads, replied, bad_option_ignored, gives_links, asks, asks_whole, Hears, settled, admitted}
 use Rattle.servient_laws.proofs.AlikeStates.{SameTable, SameServer}
@@ -33,7 +33,7 @@ use Rattle.servient_laws.proofs.AlikeTables.{same_at_moment, same_reply, IsLast,
 use Rattle.servient_laws.proofs.AlikeAnswers.{same_id_used, moved, same_replies, SameAsk, SameHeard, heard_as, sent_back, repeated, IsAmple, first_fault, AtOnce, both_of, answered_by, at_once_alike, not_ignored, not_asked, asked_silent, given_silent, not_whole, same_whole}
 
 -- two that are asked
-asked_alike : (h k : Heard) (one other : PlainAsk) (request ask : PendingReply) (u v : Server) → h ≡ asked one request → k ≡ asked other ask → one ≡ other → SameAsk request ask u v
+asked_alike : (h k : Heard) (one other : AskSeen) (request ask : PendingReply) (u v : Server) → h ≡ asked one request → k ≡ asked other ask → one ≡ other → SameAsk request ask u v
     → SameHeard h k u v
 asked_alike h k one other request ask u v is is' same slots =
     subst (λ (x : Heard). SameHeard h x u v) (sym is') (subst (λ (x : Heard). SameHeard x (asked other ask) u v) (sym is) (same, slots))
@@ -57,7 +57,7 @@ same_reads from now m slot other h k s t u v same l n on_h on_k (replied r parts
     let said : both_of r parts ≡ both_of q rest = same_Some (both_of r parts) (both_of q rest) (sym one ∙ at_once_alike from now m s t same ∙ two) in
     let reply : q ≡ r = sym (ap (λ (x : AtOnce). x.0) said) in
     let servers : SameServer (with_parts parts s) (with_parts rest t)
-    = record { table = same.table; watchers = same.watchers; next = same.next; bodies = same.bodies; parts = ap (λ (x : AtOnce). x.1) said; links = same.links } in
+    = record { table = same.table; observers = same.observers; next = same.next; bodies = same.bodies; parts = ap (λ (x : AtOnce). x.1) said; links = same.links } in
     let both = same_replies r (head_of m) slot (head_of m) other a b (with_parts parts s) (with_parts rest t) u v servers refl l n replies
     (subst (λ (x : Reply). Replies x (head_of m) other b (with_parts rest t) v) reply replies') in
     (heard_as (answered_at_once b) h k u v tt (is ∙ ap answered_at_once both.0) is', both.1)
@@ -114,14 +114,14 @@ same_reads from now m slot other h k s t u v same l n on_h on_k (asks_whole b pl
             last_too = subst (λ (x : Server). IsLast other x.exchanges) (sym after') n;
           }),
       moved (with_parts (remove parts place) s) (with_parts (remove rest place') t) u v after after'
-          (record { table = same.table; watchers = same.watchers; next = same.next; bodies = same.bodies; parts = both.1; links = same.links }),
+          (record { table = same.table; observers = same.observers; next = same.next; bodies = same.bodies; parts = both.1; links = same.links }),
     )
 same_reads from now m slot other h k s t u v same l n on_h on_k (gives_links a none acts links get replies is) (gives_links b none' acts' links' get' replies' is') =
     let size = size_asked (observing_in m) (what_is_asked m) in
     let servers : SameServer (links_given from now m.token (observing_in m) (what_is_asked m) s) (links_given from now m.token (observing_in m) (what_is_asked m) t)
     = record {
       table = same.table;
-      watchers = ap (watchers_with_links (observing_in m) from m.token) same.watchers;
+      observers = ap (observers_with_links (observing_in m) from m.token) same.observers;
       next = same.next;
       bodies = ap₂ (λ (x : List ℕ) (y : List Body). bodies_with_links from (what_is_asked m).request.path now size x y) same.links same.bodies;
       parts = same.parts;
@@ -186,7 +186,7 @@ between_same : (from : Endpoint) (bytes : List ℕ) (now : ℕ) (m : CoapMessage
     → SameTable u.exchanges v.exchanges → SameServer u v
 between_same from bytes now m one other s t u v same a b table = record {
   table = table;
-  watchers = a.same_watchers ∙ same.watchers ∙ sym b.same_watchers;
+  observers = a.same_observers ∙ same.observers ∙ sym b.same_observers;
   next = a.same_id ∙ same.next ∙ sym b.same_id;
   bodies = a.same_bodies ∙ same.bodies ∙ sym b.same_bodies;
   parts = a.same_parts ∙ same.parts ∙ sym b.same_parts;
@@ -219,7 +219,7 @@ same_requests from bytes now h k s t u v same on_h on_k p w x Full (Repeat kept)
 same_requests from bytes now h k s t u v same on_h on_k p w x Full (Fresh slot) a b f g alike = absurd alike
 
 same_reported : (from : Endpoint) (m : CoapMessage) (s t : Server) → SameServer s t → SameServer (with_report from m s) (with_report from m t)
-same_reported from m s t same = record { table = same.table; watchers = ap (λ (w : Watching). told_by from m w) same.watchers; next = same.next; bodies = same.bodies; parts = same.parts; links = same.links }
+same_reported from m s t same = record { table = same.table; observers = ap (λ (w : Watching). told_by from m w) same.observers; next = same.next; bodies = same.bodies; parts = same.parts; links = same.links }
 
 pub same_hearing : (from : Endpoint) (bytes : List ℕ) (now : ℕ) (h k : Heard) (s t u v : Server) → SameServer s t → IsAmple h → IsAmple k
     → Hears from bytes now h s u → Hears from bytes now k t v → SameHeard h k u v × SameServer u v

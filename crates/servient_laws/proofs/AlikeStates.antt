@@ -29,7 +29,7 @@ pub record SameTable (t u : Table) : Type 0 where
 
 pub record SameServer (s t : Server) : Type 0 where
   pub table : SameTable s.exchanges t.exchanges
-  pub watchers : s.watchers ≡ t.watchers
+  pub observers : s.observers ≡ t.observers
   pub next : s.next_id ≡ t.next_id
   pub bodies : s.bodies ≡ t.bodies
   pub parts : s.parts ≡ t.parts
@@ -43,7 +43,7 @@ pub record Alike (s t : State) : Type 0 where
   pub directory : s.directory ≡ t.directory
 
 pub same_server : (s : Server) → SameServer s s
-same_server s = record { table = record { capacity = refl; moment = refl; exchanges = refl }; watchers = refl; next = refl; bodies = refl; parts = refl; links = refl }
+same_server s = record { table = record { capacity = refl; moment = refl; exchanges = refl }; observers = refl; next = refl; bodies = refl; parts = refl; links = refl }
 
 pub alike_self : (s : State) → Alike s s
 alike_self s = record { moment = refl; http = refl; coap = same_server s.coap; thing = refl; directory = refl }
@@ -51,7 +51,7 @@ alike_self s = record { moment = refl; http = refl; coap = same_server s.coap; t
 pub server_back : (s t : Server) → SameServer s t → SameServer t s
 server_back s t e = record {
   table = record { capacity = sym e.table.capacity; moment = sym e.table.moment; exchanges = sym e.table.exchanges };
-  watchers = sym e.watchers;
+  observers = sym e.observers;
   next = sym e.next;
   bodies = sym e.bodies;
   parts = sym e.parts;

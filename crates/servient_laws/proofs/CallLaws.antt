@@ -12,14 +12,14 @@ use Rattle.wot_json.specs.declared.tree.Tree.{Tree}
 use Rattle.wot_terms.specs.declared.kind.Kind.{Kind}
 use Rattle.wot_terms.specs.declared.kind.Kind.TheVariants as kind
 use Rattle.thing_ops.specs.declared.outcome.Outcome.{Outcome}
-use Rattle.thing_ops.specs.Requests.{PlainRequest}
+use Rattle.thing_ops.specs.Requests.{RequestSeen}
 use Rattle.thing_handler.specs.declared.handler.CallKind.{CallKind}
 use Rattle.thing_handler.specs.declared.handler.CallKind.TheVariants as call
 use Rattle.thing_handler.specs.declared.handler.Answer.TheVariants as answer
 use Rattle.thing_handler.specs.Turns.{HandlerCall}
 use Rattle.thing_site.specs.Site.{Placed, ExposedThing, Site, affordance_named, is_kind, of_kind, those_of}
-use Rattle.thing_site.specs.declared.place.Act.{Act}
-use Rattle.thing_site.specs.declared.place.Act.TheVariants.{Describes as describes, ReadsAll as reads_all, WritesMany as writes_many, Reads as reads, Writes as writes, Invokes as invokes, Queries as queries, Cancels as cancels, ReadsEvent as reads_event, Waits as waits}
+use Rattle.thing_site.specs.declared.place.ThingAct.{ThingAct}
+use Rattle.thing_site.specs.declared.place.ThingAct.TheVariants.{Describes as describes, ReadsAll as reads_all, WritesMany as writes_many, Reads as reads, Writes as writes, Invokes as invokes, Queries as queries, Cancels as cancels, ReadsEvent as reads_event, Waits as waits}
 use Rattle.thing_site.specs.Refusals.{Input, inputs_of, only_input, member_inputs, object_inputs, invoke_inputs, no_inputs, written_property, unless_read_only, longest_value, Holding, IsLong, IsRefusedBySchema, SomeInput}
 use Rattle.thing_core.specs.State.{State, Emission, Status, running, completed}
 use Rattle.thing_core.specs.Refusals.{Asked, act_asked}
@@ -258,7 +258,7 @@ cancels_fit site p id (completed output) done s calls t one r = fit_none site ca
 
 -- ---- requests and polls
 
-performs_fit : (site : Site) (act : Act) (q : PlainRequest) (inputs : List Input) (done : Done) (s : State) (calls : List HandlerCall) (t : State)
+performs_fit : (site : Site) (act : ThingAct) (q : RequestSeen) (inputs : List Input) (done : Done) (s : State) (calls : List HandlerCall) (t : State)
     → AllByRecursion (Contains (affordances_of site)) (affordances_of_act act) → IsActOfKind act → inputs_of act q.body ≡ Some inputs
     → ¬ (SomeInput IsLong inputs) → ¬ (SomeInput IsRefusedBySchema inputs) → Performs act q inputs done s calls t → AreFit site calls
 performs_fit site (describes thing) q inputs done s calls t among is given short taken r = fit_none site calls r.1.saw
@@ -285,13 +285,13 @@ performs_fit site (reads_event p) q inputs done s calls t among is given short t
 performs_fit site (waits p) q inputs done s calls t among is given short taken r = fit_none site calls r.1.saw
 
 -- a fact of no act that is asked for is one of no input of it
-not_some : (P : Input → Type 0) (a : Asked) (act : Act) (inputs : List Input) → act_asked a ≡ Some act → inputs_of act a.request.body ≡ Some inputs
+not_some : (P : Input → Type 0) (a : Asked) (act : ThingAct) (inputs : List Input) → act_asked a ≡ Some act → inputs_of act a.request.body ≡ Some inputs
     → ¬ (Holding (λ x. Holding (SomeInput P) (inputs_of x a.request.body)) (act_asked a)) → ¬ (SomeInput P inputs)
 not_some P a act inputs asked given none some =
-    none (subst (λ (x : Option Act). Holding (λ y. Holding (SomeInput P) (inputs_of y a.request.body)) x) (sym asked)
+    none (subst (λ (x : Option ThingAct). Holding (λ y. Holding (SomeInput P) (inputs_of y a.request.body)) x) (sym asked)
     (subst (λ (x : Option (List Input)). Holding (SomeInput P) x) (sym given) some))
 
-pub acts_fit : (site : Site) (q : PlainRequest) (done : Done) (s : State) (calls : List HandlerCall) (t : State) → Acts site q done s calls t → AllByRecursion (IsFit site) calls
+pub acts_fit : (site : Site) (q : RequestSeen) (done : Done) (s : State) (calls : List HandlerCall) (t : State) → Acts site q done s calls t → AllByRecursion (IsFit site) calls
 acts_fit site q done s calls t (refuses o refused answers) = fit_none site calls answers.1.saw
 acts_fit site q done s calls t (has_no_memory answers) = fit_none site calls answers.1.saw
 acts_fit site q done s calls t (performs act inputs free asked given does) =

@@ -15,10 +15,10 @@ use Rattle.thing_ops.specs.Routes.{route_of}
 use Rattle.thing_ops.specs.Verbs.{verbs_of}
 use Rattle.thing_site.specs.Site.{Placed, ExposedThing, Site, affordance_named, is_kind}
 use Rattle.thing_site.specs.Places.{affordance_in, thing_in, place_at, where_observable, act_of, act_at, flags_of, is_listed}
-use Rattle.thing_site.specs.declared.place.Place.{Place}
-use Rattle.thing_site.specs.declared.place.Act.{Act}
-use Rattle.thing_site.specs.declared.place.Place.TheVariants.{Description as description, AllProperties as all_properties, Property as property, Observed as observed, Action as action, Invocation as invocation, Event as event, Subscribed as subscribed}
-use Rattle.thing_site.specs.declared.place.Act.TheVariants.{Reads as reads, Writes as writes, Invokes as invokes, Queries as queries, Cancels as cancels}
+use Rattle.thing_site.specs.declared.place.Resource.{Resource}
+use Rattle.thing_site.specs.declared.place.ThingAct.{ThingAct}
+use Rattle.thing_site.specs.declared.place.Resource.TheVariants.{Description as description, AllProperties as all_properties, Property as property, Observed as observed, Action as action, Invocation as invocation, Event as event, Subscribed as subscribed}
+use Rattle.thing_site.specs.declared.place.ThingAct.TheVariants.{Reads as reads, Writes as writes, Invokes as invokes, Queries as queries, Cancels as cancels}
 use Rattle.thing_core.specs.Places.{where_stands}
 use Rattle.thing_core.specs.State.{Invocation, invocation_named}
 use Rattle.thing_core.specs.Refusals.{Asked, act_asked, place_asked}
@@ -70,13 +70,13 @@ in_path_kind k path site p e =
     named_kind k of_name.0 of_thing.0.affordances p of_name.2
 
 -- the kind of what a place or an act is about
-abbrev IsPlaceOfKind : Place → Type 0
+abbrev IsPlaceOfKind : Resource → Type 0
 IsPlaceOfKind (property p) = p.affordance.kind ≡ kind.Property
 IsPlaceOfKind (action p) = p.affordance.kind ≡ kind.Action
 IsPlaceOfKind (invocation p id) = p.affordance.kind ≡ kind.Action
 IsPlaceOfKind place = Unit {0}
 
-abbrev pub IsActOfKind : Act → Type 0
+abbrev pub IsActOfKind : ThingAct → Type 0
 IsActOfKind (reads p) = p.affordance.kind ≡ kind.Property
 IsActOfKind (writes p) = p.affordance.kind ≡ kind.Property
 IsActOfKind (invokes p) = p.affordance.kind ≡ kind.Action
@@ -84,42 +84,42 @@ IsActOfKind (queries p id) = p.affordance.kind ≡ kind.Action
 IsActOfKind (cancels p id) = p.affordance.kind ≡ kind.Action
 IsActOfKind act = Unit {0}
 
-observable_kind : (p : Placed) (place : Place) → where_observable p ≡ Some place → IsPlaceOfKind place
+observable_kind : (p : Placed) (place : Resource) → where_observable p ≡ Some place → IsPlaceOfKind place
 observable_kind p place e = by_test p.affordance.observable e
   where
     by_test : (b : Bool) → cond b (Some (observed p)) None ≡ Some place → IsPlaceOfKind place
-    by_test true is = subst (λ (x : Place). IsPlaceOfKind x) (same_Some (observed p) place is) tt
+    by_test true is = subst (λ (x : Resource). IsPlaceOfKind x) (same_Some (observed p) place is) tt
     by_test false is = absurd cc
 
-place_kind : (form : RouteKind) (path : List (List ℕ)) (site : Site) (place : Place) → place_at form path site ≡ Some place → IsPlaceOfKind place
-place_kind route.Root path site place e = let of = made_of description (slice_get site 0) place e in subst (λ (x : Place). IsPlaceOfKind x) of.2 tt
-place_kind route.Thing path site place e = let of = made_of description (thing_in path site) place e in subst (λ (x : Place). IsPlaceOfKind x) of.2 tt
-place_kind route.All path site place e = let of = made_of all_properties (thing_in path site) place e in subst (λ (x : Place). IsPlaceOfKind x) of.2 tt
+place_kind : (form : RouteKind) (path : List (List ℕ)) (site : Site) (place : Resource) → place_at form path site ≡ Some place → IsPlaceOfKind place
+place_kind route.Root path site place e = let of = made_of description (slice_get site 0) place e in subst (λ (x : Resource). IsPlaceOfKind x) of.2 tt
+place_kind route.Thing path site place e = let of = made_of description (thing_in path site) place e in subst (λ (x : Resource). IsPlaceOfKind x) of.2 tt
+place_kind route.All path site place e = let of = made_of all_properties (thing_in path site) place e in subst (λ (x : Resource). IsPlaceOfKind x) of.2 tt
 place_kind route.Property path site place e =
-    let of = made_of property (affordance_in kind.Property path site) place e in subst (λ (x : Place). IsPlaceOfKind x) of.2 (in_path_kind kind.Property path site of.0 of.1)
+    let of = made_of property (affordance_in kind.Property path site) place e in subst (λ (x : Resource). IsPlaceOfKind x) of.2 (in_path_kind kind.Property path site of.0 of.1)
 place_kind route.Observe path site place e = let of = came_of where_observable (affordance_in kind.Property path site) place e in observable_kind of.0 place of.2
-place_kind route.Subscribe path site place e = let of = made_of subscribed (affordance_in kind.Event path site) place e in subst (λ (x : Place). IsPlaceOfKind x) of.2 tt
+place_kind route.Subscribe path site place e = let of = made_of subscribed (affordance_in kind.Event path site) place e in subst (λ (x : Resource). IsPlaceOfKind x) of.2 tt
 place_kind route.Action path site place e =
-    let of = made_of action (affordance_in kind.Action path site) place e in subst (λ (x : Place). IsPlaceOfKind x) of.2 (in_path_kind kind.Action path site of.0 of.1)
+    let of = made_of action (affordance_in kind.Action path site) place e in subst (λ (x : Resource). IsPlaceOfKind x) of.2 (in_path_kind kind.Action path site of.0 of.1)
 place_kind (route.Invocation id) path site place e =
-    let of = made_of (λ (p : Placed). invocation p id) (affordance_in kind.Action path site) place e in subst (λ (x : Place). IsPlaceOfKind x) of.2 (in_path_kind kind.Action path site of.0 of.1)
-place_kind route.Event path site place e = let of = made_of event (affordance_in kind.Event path site) place e in subst (λ (x : Place). IsPlaceOfKind x) of.2 tt
+    let of = made_of (λ (p : Placed). invocation p id) (affordance_in kind.Action path site) place e in subst (λ (x : Resource). IsPlaceOfKind x) of.2 (in_path_kind kind.Action path site of.0 of.1)
+place_kind route.Event path site place e = let of = made_of event (affordance_in kind.Event path site) place e in subst (λ (x : Resource). IsPlaceOfKind x) of.2 tt
 place_kind route.Things path site place e = absurd cc
 place_kind route.Entry path site place e = absurd cc
 place_kind route.Nowhere path site place e = absurd cc
 
-stands_kind : (invocations : List Invocation) (place found : Place) → IsPlaceOfKind place → where_stands invocations place ≡ Some found → IsPlaceOfKind found
+stands_kind : (invocations : List Invocation) (place found : Resource) → IsPlaceOfKind place → where_stands invocations place ≡ Some found → IsPlaceOfKind found
 stands_kind invocations (invocation p id) found is e =
-    let of = made_of (λ (i : Invocation). invocation p id) (invocation_named p.slot id invocations) found e in subst (λ (x : Place). IsPlaceOfKind x) of.2 is
-stands_kind invocations (description t) found is e = subst (λ (x : Place). IsPlaceOfKind x) (same_Some (description t) found e) is
-stands_kind invocations (all_properties t) found is e = subst (λ (x : Place). IsPlaceOfKind x) (same_Some (all_properties t) found e) is
-stands_kind invocations (property p) found is e = subst (λ (x : Place). IsPlaceOfKind x) (same_Some (property p) found e) is
-stands_kind invocations (observed p) found is e = subst (λ (x : Place). IsPlaceOfKind x) (same_Some (observed p) found e) is
-stands_kind invocations (action p) found is e = subst (λ (x : Place). IsPlaceOfKind x) (same_Some (action p) found e) is
-stands_kind invocations (event p) found is e = subst (λ (x : Place). IsPlaceOfKind x) (same_Some (event p) found e) is
-stands_kind invocations (subscribed p) found is e = subst (λ (x : Place). IsPlaceOfKind x) (same_Some (subscribed p) found e) is
+    let of = made_of (λ (i : Invocation). invocation p id) (invocation_named p.slot id invocations) found e in subst (λ (x : Resource). IsPlaceOfKind x) of.2 is
+stands_kind invocations (description t) found is e = subst (λ (x : Resource). IsPlaceOfKind x) (same_Some (description t) found e) is
+stands_kind invocations (all_properties t) found is e = subst (λ (x : Resource). IsPlaceOfKind x) (same_Some (all_properties t) found e) is
+stands_kind invocations (property p) found is e = subst (λ (x : Resource). IsPlaceOfKind x) (same_Some (property p) found e) is
+stands_kind invocations (observed p) found is e = subst (λ (x : Resource). IsPlaceOfKind x) (same_Some (observed p) found e) is
+stands_kind invocations (action p) found is e = subst (λ (x : Resource). IsPlaceOfKind x) (same_Some (action p) found e) is
+stands_kind invocations (event p) found is e = subst (λ (x : Resource). IsPlaceOfKind x) (same_Some (event p) found e) is
+stands_kind invocations (subscribed p) found is e = subst (λ (x : Resource). IsPlaceOfKind x) (same_Some (subscribed p) found e) is
 
-verb_kind : (place : Place) (v : Verb) → IsPlaceOfKind place → IsActOfKind (act_of place v)
+verb_kind : (place : Resource) (v : Verb) → IsPlaceOfKind place → IsActOfKind (act_of place v)
 verb_kind (description t) v is = tt
 verb_kind (all_properties t) verb.Get is = tt
 verb_kind (all_properties t) verb.Head is = tt
@@ -147,17 +147,17 @@ verb_kind (invocation p id) verb.Other is = is
 verb_kind (event p) v is = tt
 verb_kind (subscribed p) v is = tt
 
-at_kind : (form : RouteKind) (place : Place) (v : Verb) (act : Act) → IsPlaceOfKind place → act_at form place v ≡ Some act → IsActOfKind act
+at_kind : (form : RouteKind) (place : Resource) (v : Verb) (act : ThingAct) → IsPlaceOfKind place → act_at form place v ≡ Some act → IsActOfKind act
 at_kind form place v act is e = by_test (is_listed v (verbs_of form (flags_of place))) e
   where
     by_test : (b : Bool) → cond b (Some (act_of place v)) None ≡ Some act → IsActOfKind act
-    by_test true found = subst (λ (x : Act). IsActOfKind x) (same_Some (act_of place v) act found) (verb_kind place v is)
+    by_test true found = subst (λ (x : ThingAct). IsActOfKind x) (same_Some (act_of place v) act found) (verb_kind place v is)
     by_test false found = absurd cc
 
 -- the act that is asked for is of its kind
-pub asked_kind : (a : Asked) (act : Act) → act_asked a ≡ Some act → IsActOfKind act
+pub asked_kind : (a : Asked) (act : ThingAct) → act_asked a ≡ Some act → IsActOfKind act
 asked_kind a act e =
-    let of = came_of (λ (place : Place). act_at (route_of a.request.path) place a.request.verb) (place_asked a) act e in
+    let of = came_of (λ (place : Resource). act_at (route_of a.request.path) place a.request.verb) (place_asked a) act e in
     let there = came_of (where_stands a.state.invocations) (place_at (route_of a.request.path) a.request.path a.site) of.0 of.1 in
     at_kind (route_of a.request.path) of.0 a.request.verb act
     (stands_kind a.state.invocations there.0 of.0 (place_kind (route_of a.request.path) a.request.path a.site there.0 there.1) there.2) of.2

@@ -13,13 +13,13 @@ use Rattle.coap_exchange.specs.declared.met.Met.TheVariants.{Fresh}
 use Rattle.coap_blocks.specs.Bodies.{Body}
 use Rattle.coap_blocks.specs.Laws.{Call, adds, clears, blocks_among, parts_after}
 use Rattle.coap_blocks.specs.Parts.{Arrival as BlockArrival, Part}
-use Rattle.coap_opts.specs.Reading.{PlainAsk, asked as what_is_asked}
-use Rattle.coap_bind.specs.declared.blocks.Wanted.TheVariants as wanted
+use Rattle.coap_opts.specs.Reading.{AskSeen, asked as what_is_asked}
+use Rattle.coap_bind.specs.declared.blocks.BlockWish.TheVariants as wanted
 use Rattle.coap_bind.specs.declared.pending.PendingReply.{PendingReply}
 use Rattle.coap_bind.specs.declared.server.Server.{Server}
 use Rattle.coap_bind.specs.Blocks.{answer_reply, bodies_after}
 use Rattle.coap_bind.specs.Links.{size_asked, bodies_with_links}
-use Rattle.coap_bind.specs.Server.{Heard, asked, is_request, with_id_used, with_kept, with_watchers, with_bodies, with_parts, Replies, Answers, wanted_in, pending_of, pending_joined, with_whole_body, block_arrival, Adds, IsAnsweredAtOnce, bad_option, bad_block, for_proxy, no_memory, later_block, joined, takes_no_other_verb, takes_no_body, Reads, replied, bad_option_ignored, asks_links, gives_links, links_given, observing_in, asks, asks_whole as reads_whole, malformed, no_request, duplicate, full, settled, admitted, Hears, answered_at_once, ignored}
+use Rattle.coap_bind.specs.Server.{Heard, asked, is_request, with_id_used, with_kept, with_observers, with_bodies, with_parts, Replies, Answers, wanted_in, pending_of, pending_joined, with_whole_body, block_arrival, Adds, IsAnsweredAtOnce, bad_option, bad_block, for_proxy, no_memory, later_block, joined, takes_no_other_verb, takes_no_body, Reads, replied, bad_option_ignored, asks_links, gives_links, links_given, observing_in, asks, asks_whole as reads_whole, malformed, no_request, duplicate, full, settled, admitted, Hears, answered_at_once, ignored}
 use Rattle.coap_bind.specs.Writing.{Reply, observed, ReplyHead, head_of, head_in}
 use Rattle.coap_bind.proofs.HistoryLaws.{not_replied, not_duplicate}
 use Rattle.thing_ops.specs.declared.outcome.Outcome.{Outcome}
@@ -56,7 +56,7 @@ replies_blocks r head slot bytes s t h =
 answers_blocks : (ask : PendingReply) (o : Outcome) (target : Option ℕ) (bytes : List ℕ) (s t : Server) → Answers ask o target bytes s t
     → (t.parts ≡ s.parts) × (t.bodies ≡ bodies_after ask.blocks ask.from o s.bodies) × (t.links ≡ s.links)
 answers_blocks ask o target bytes s t h =
-    replies_blocks (observed h.observe (answer_reply ask.blocks o)) (head_in ask) ask.slot bytes (with_bodies (bodies_after ask.blocks ask.from o s.bodies) (with_watchers h.watchers s)) t h.replies
+    replies_blocks (observed h.observe (answer_reply ask.blocks o)) (head_in ask) ask.slot bytes (with_bodies (bodies_after ask.blocks ask.from o s.bodies) (with_observers h.observers s)) t h.replies
 
 -- ---- what is heard
 
@@ -160,15 +160,15 @@ hears_blocks from bytes now h s t (admitted m slot u met reads) =
 
 -- nothing, or the request of a datagram as it is, or with a body that was joined
 pub data AsksFor (from : Endpoint) (bytes : List ℕ) (now : ℕ) (h : Heard) : Type 0 where
-  asks_nothing : ((what : PlainAsk) (ask : PendingReply) → h ≡ asked what ask → ⊥) → AsksFor from bytes now h
+  asks_nothing : ((what : AskSeen) (ask : PendingReply) → h ≡ asked what ask → ⊥) → AsksFor from bytes now h
   asks_act : (m : CoapMessage) (slot : ℕ) → Spells m bytes → is_request m ≡ true → h ≡ asked (what_is_asked m) (pending_of from now m slot) → AsksFor from bytes now h
   asks_whole : (m : CoapMessage) (slot : ℕ) (b : Block) (body : List ℕ) → h ≡ asked (with_whole_body body (what_is_asked m)) (pending_joined from m slot b)
       → AsksFor from bytes now h
 
-at_once_asks : (bytes : List ℕ) (what : PlainAsk) (ask : PendingReply) → answered_at_once bytes ≡ asked what ask → ⊥
+at_once_asks : (bytes : List ℕ) (what : AskSeen) (ask : PendingReply) → answered_at_once bytes ≡ asked what ask → ⊥
 at_once_asks bytes what ask is = absurd cc
 
-ignored_asks : (what : PlainAsk) (ask : PendingReply) → ignored ≡ asked what ask → ⊥
+ignored_asks : (what : AskSeen) (ask : PendingReply) → ignored ≡ asked what ask → ⊥
 ignored_asks what ask is = absurd cc
 
 reads_asks : (from : Endpoint) (bytes : List ℕ) (now : ℕ) (m : CoapMessage) (slot : ℕ) (h : Heard) (s t : Server) → Spells m bytes → is_request m ≡ true
@@ -190,14 +190,14 @@ hears_asks from bytes now h s t (admitted m slot u met reads) = reads_asks from 
 -- ---- what is answered
 
 -- one act is made on it, the parts are as they were, and of the bodies one may be new
-pub record Answered (site : Site) (what : PlainAsk) (ask : PendingReply) (done : Done) (s : State) (seen : List Sighting) (t : State) : Type 0 where
+pub record Answered (site : Site) (what : AskSeen) (ask : PendingReply) (done : Done) (s : State) (seen : List Sighting) (t : State) : Type 0 where
   pub acts : Acts site what.request done s.thing (calls_in seen) t.thing
   pub parts : t.coap.parts ≡ s.coap.parts
   pub links : t.coap.links ≡ s.coap.links
   pub moment : t.moment ≡ s.moment
   pub bodies : t.coap.bodies ≡ bodies_after ask.blocks ask.from done.outcome s.coap.bodies
 
-pub asked_is_answered : (site : Site) (from : Endpoint) (what : PlainAsk) (ask : PendingReply) (s t : State) (seen : List Sighting)
+pub asked_is_answered : (site : Site) (from : Endpoint) (what : AskSeen) (ask : PendingReply) (s t : State) (seen : List Sighting)
     (answers : AnswersDatagram site from (asked what ask) s seen t) → Answered site what ask answers.0 s seen t
 asked_is_answered site from what ask s t seen (done, w) =
     let written = w.other.one.1 in

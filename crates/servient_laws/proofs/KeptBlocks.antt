@@ -7,9 +7,9 @@ use Rattle.coap_msg.specs.declared.constants.TheConstants.{LONGEST_DATAGRAM}
 use Rattle.coap_msg.specs.declared.endpoint.Endpoint.{Endpoint}
 use Rattle.coap_observe.specs.declared.notice.Notice.{Notice}
 use Rattle.coap_bind.specs.declared.server.Server.{Server}
-use Rattle.coap_bind.specs.Server.{with_next_id, with_notice_sent, with_watchers, SendsNext}
+use Rattle.coap_bind.specs.Server.{with_next_id, with_notification_sent, with_observers, SendsNext}
 use Rattle.http_bind.specs.Streams.{HttpReply, Streams, Taken, asks, wants_continue, is_faulty, interrupts, oldest_for, oldest_late, IsDry, NoneIdle}
-use Rattle.thing_ops.specs.Requests.{PlainRequest}
+use Rattle.thing_ops.specs.Requests.{RequestSeen}
 use Rattle.thing_core.specs.Thing.{Done}
 use Rattle.thing_core.specs.State.{State as ThingState, Emission, last_of}
 use Rattle.thing_site.specs.Site.{Placed, events_of}
@@ -92,7 +92,7 @@ if_any_same : (c : ℕ) (reply : Option HttpReply) (s t : State) (seen : List Si
 if_any_same c None s t seen stays = same_state s t stays.next
 if_any_same c (Some reply) s t seen does = same_state s t does.next
 
-by_http_same : (site : Site) (q : PlainRequest) (done : Done) (s t : State) (seen : List Sighting) → PerformsByHttp site q done s seen t → SameBlocks s t
+by_http_same : (site : Site) (q : RequestSeen) (done : Done) (s t : State) (seen : List Sighting) → PerformsByHttp site q done s seen t → SameBlocks s t
 by_http_same site q done s t seen (inl directory) = same_as s (record s { directory = directory.1.0 }) t directory.1.3.next refl refl
 by_http_same site q done s t seen (inr things) = thing_same s t things.1.0 things.1.3.next
 
@@ -120,9 +120,9 @@ polls_same : (p : Placed) (s t : State) (seen : List Sighting) → PollsAndDeliv
 polls_same p s t seen (emissions, w) =
     then_same s w.mid t (thing_same s w.mid w.one.0 w.one.3.next) (delivers_each_same emissions w.mid t w.second w.other)
 
-notice_sent : (n : Option Notice) (s : Server) → ((with_notice_sent n s).parts ≡ s.parts) × ((with_notice_sent n s).bodies ≡ s.bodies) × ((with_notice_sent n s).links ≡ s.links)
-notice_sent None s = (refl, refl, refl)
-notice_sent (Some n) s = by n.fresh
+notification_sent : (n : Option Notice) (s : Server) → ((with_notification_sent n s).parts ≡ s.parts) × ((with_notification_sent n s).bodies ≡ s.bodies) × ((with_notification_sent n s).links ≡ s.links)
+notification_sent None s = (refl, refl, refl)
+notification_sent (Some n) s = by n.fresh
   where
     by : (b : Bool) → ((if b then with_next_id s else s).parts ≡ s.parts) × ((if b then with_next_id s else s).bodies ≡ s.bodies) × ((if b then with_next_id s else s).links ≡ s.links)
     by true = (refl, refl, refl)
@@ -130,7 +130,7 @@ notice_sent (Some n) s = by n.fresh
 
 sends_same : (n : Option Notice) (s t : State) (seen : List Sighting) → OnCoap (λ now. SendsNext now n) s seen t → SameBlocks s t
 sends_same n s t seen on =
-    let sent = notice_sent n (with_watchers on.1.watchers s.coap) in
+    let sent = notification_sent n (with_observers on.1.observers s.coap) in
     coap_same s t on.0 on.2.next (ap (λ (x : Server). x.parts) on.1.after ∙ sent.0) (ap (λ (x : Server). x.bodies) on.1.after ∙ sent.1) (ap (λ (x : Server). x.links) on.1.after ∙ sent.2)
 
 notification_same : (s t : State) (seen : List Sighting) → SendsNotification s seen t → SameBlocks s t

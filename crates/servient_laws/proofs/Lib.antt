@@ -12,7 +12,7 @@ mod AlikeStates
 mod AlikeTables
 mod AlikeAnswers
 mod AlikeServers
-mod AlikeWatchers
+mod AlikeObservers
 mod AlikeStreams
 mod AlikeDirectories
 mod AlikeRegistries

@@ -9,14 +9,14 @@ use Rattle.thing_ops.specs.declared.conditions.Conditions.{Conditions}
 use Rattle.thing_ops.specs.Conditions.{fails, has}
 use Rattle.thing_ops.specs.declared.outcome.Outcome.{Outcome}
 use Rattle.thing_ops.specs.declared.outcome.Outcome.TheVariants as outcome
-use Rattle.thing_ops.specs.Requests.{PlainRequest}
+use Rattle.thing_ops.specs.Requests.{RequestSeen}
 use Rattle.thing_handler.specs.declared.handler.CallKind.{CallKind}
 use Rattle.thing_handler.specs.declared.handler.CallKind.TheVariants as call
 use Rattle.thing_handler.specs.declared.handler.Answer.TheVariants as answer
 use Rattle.thing_handler.specs.Turns.{HandlerCall, missed}
 use Rattle.thing_site.specs.Site.{Placed}
-use Rattle.thing_site.specs.declared.place.Act.{Act}
-use Rattle.thing_site.specs.declared.place.Act.TheVariants.{Describes as describes, ReadsAll as reads_all, WritesMany as writes_many, Reads as reads, Writes as writes, Invokes as invokes, Queries as queries, Cancels as cancels, ReadsEvent as reads_event, Waits as waits}
+use Rattle.thing_site.specs.declared.place.ThingAct.{ThingAct}
+use Rattle.thing_site.specs.declared.place.ThingAct.TheVariants.{Describes as describes, ReadsAll as reads_all, WritesMany as writes_many, Reads as reads, Writes as writes, Invokes as invokes, Queries as queries, Cancels as cancels, ReadsEvent as reads_event, Waits as waits}
 use Rattle.thing_site.specs.Refusals.{Input}
 use Rattle.thing_core.specs.State.{State, Emission, Status, running, completed, last_of, version_of}
 use Rattle.thing_core.specs.Refusals.{Asked, refusals, IsRefusedBy}
@@ -254,7 +254,7 @@ no_description text b e = cc
 no_wait : (n : ℕ) → outcome.Wait n ≡ outcome.Memory → ⊥
 no_wait n e = cc
 
-performs_missed : (act : Act) (q : PlainRequest) (inputs : List Input) (done : Done) (s : State) (seen : List HandlerCall) (t : State) → done.outcome ≡ outcome.Memory
+performs_missed : (act : ThingAct) (q : RequestSeen) (inputs : List Input) (done : Done) (s : State) (seen : List HandlerCall) (t : State) → done.outcome ≡ outcome.Memory
     → Performs act q inputs done s seen t → EndsInMiss seen
 performs_missed (describes thing) q inputs done s seen t memory r = absurd (no_description _ _ (outcome_of done _ r.0 memory))
 performs_missed (reads_all thing) q inputs done s seen t memory r = each_missed (readable thing) [] done s seen t memory r

@@ -13,7 +13,7 @@ use Rattle.coap_msg.specs.Opts.{segment_options}
 use Rattle.thing_ops.specs.declared.outcome.Outcome.{Outcome}
 use Rattle.thing_ops.specs.Outcomes.{answer_of, payload_of, text_of, version_of}
 use Rattle.thing_core.specs.Thing.{Done}
-use Rattle.coap_opts.specs.Reading.{PlainAsk, values_under}
+use Rattle.coap_opts.specs.Reading.{AskSeen, values_under}
 use Rattle.coap_opts.proofs.FirstValues.{values_first}
 use Rattle.coap_bind.specs.declared.pending.PendingReply.{PendingReply}
 use Rattle.coap_bind.specs.declared.blocks.BlockUse.{BlockUse}
@@ -25,7 +25,7 @@ use Rattle.coap_bind.specs.Blocks.{is_representation, given_portion, all_of, por
 use Rattle.coap_bind.specs.Writing.{place_of, text_format, format_options, etag_options, observe_options, reply_options, whole_reply, observed, coap_reply, head_in}
 use Rattle.http_wire.specs.Writing.{PlainReply, http_reply}
 use Rattle.http_bind.specs.Replying.{reply, reply_head, reply_body, longest_reply_head, head_of, head_with, location_of}
-use Rattle.thing_ops.specs.Requests.{PlainRequest}
+use Rattle.thing_ops.specs.Requests.{RequestSeen}
 use Rattle.http_bind.specs.Streams.{HttpReply, Streams, connection_at, Answers as AnswersRequest, lets_wait, sends_reply, waits_of}
 use Rattle.servient_outside.specs.declared.net.Act.TheVariants as act
 use Rattle.servient_outside.specs.Network.{did}
@@ -131,7 +131,7 @@ in_whole x a b seen whole (inr there) = subst (λ (l : List Sighting). Contains 
 first_of : (x : Sighting) (rest seen : List Sighting) → seen ≡ x ∷ rest → Contains seen x
 first_of x rest seen is = subst (λ (l : List Sighting). Contains l x) (sym is) (0, omega arith, refl)
 
-pub by_ask : (site : Site) (from : Endpoint) (ask : PlainAsk) (r : PendingReply) (done : Done) (s t : State) (seen : List Sighting) → AnswersAsk site from ask r done s seen t → SaysByCoap from r.blocks done.outcome seen
+pub by_ask : (site : Site) (from : Endpoint) (ask : AskSeen) (r : PendingReply) (done : Done) (s t : State) (seen : List Sighting) → AnswersAsk site from ask r done s seen t → SaysByCoap from r.blocks done.outcome seen
 by_ask site from ask r done s t seen (bytes, w) = record {
   message = coap_reply (observed w.one.1.observe (answer_reply r.blocks done.outcome)) (head_in r) s.coap.next_id;
   sent = in_whole (at_network (did (act.Datagram from (spelling (coap_reply (observed w.one.1.observe (answer_reply r.blocks done.outcome)) (head_in r) s.coap.next_id))))) w.first w.second seen w.whole
@@ -199,7 +199,7 @@ whole_says (by_http n q) o s a c d seen whole says = record {
 }
 
 -- performing a request leaves the connections as they are
-same_http : (site : Site) (q : PlainRequest) (done : Done) (s t : State) (seen : List Sighting) → PerformsByHttp site q done s seen t → t.http ≡ s.http
+same_http : (site : Site) (q : RequestSeen) (done : Done) (s t : State) (seen : List Sighting) → PerformsByHttp site q done s seen t → t.http ≡ s.http
 same_http site q done s t seen (inl directory) = ap (λ (x : State). x.http) directory.1.3.next
 same_http site q done s t seen (inr things) = ap (λ (x : State). x.http) things.1.3.next
 

@@ -137,13 +137,13 @@ duplicate_has : (exchanges : ℕ) (before : List Arrival) (a : Arrival) → verd
 duplicate_has exchanges before a is = any_has (is_duplicate_of a) before (verdict_of (list_any (is_duplicate_of a) before) (nat_lt (length (filter (lives a.moment) before)) exchanges) is)
 
 -- by what is sent to answer it
-by_reply : (site : Site) (exchanges watchers : ℕ) (from : Endpoint) (m : CoapMessage) (s t : State) (e : EventWithBytes) (seen : List Sighting)
+by_reply : (site : Site) (exchanges observers : ℕ) (from : Endpoint) (m : CoapMessage) (s t : State) (e : EventWithBytes) (seen : List Sighting)
     (p : Parts site from e.bytes e s seen t) → OnlyTimePassed (moment_of s e) s.coap p.server
     → (p.what ≡ ignored)
     ⊎ ((first : Arrival) × (bytes : List ℕ) × (p.what ≡ answered_at_once bytes) × (is_duplicate_of (arrival from (moment_of s e) m) first ≡ true)
-    × (request_type m.kind ≡ Confirmable) × (first.kind ≡ Confirmable) × WasRepliedTo (nothing_came exchanges watchers) first bytes s.coap)
+    × (request_type m.kind ≡ Confirmable) × (first.kind ≡ Confirmable) × WasRepliedTo (nothing_came exchanges observers) first bytes s.coap)
     → ActsNoMore exchanges from m s e seen t
-by_reply site exchanges watchers from m s t e seen p passed (inl is) =
+by_reply site exchanges observers from m s t e seen p passed (inl is) =
     let stays = subst (λ (x : Heard). AnswersDatagram site from x (record s { moment = moment_of s e; coap = p.server }) p.answer p.middle) is p.answers in record {
       answer = p.answer;
       middle = p.middle;
@@ -151,13 +151,13 @@ by_reply site exchanges watchers from m s t e seen p passed (inl is) =
       coap = subst (λ (x : Server). OnlyTimePassed (moment_of s e) s.coap x) (sym (ap (λ (x : State). x.coap) stays.next)) passed;
       reply = inl stays.saw;
     }
-by_reply site exchanges watchers from m s t e seen p passed (inr (first, bytes, is, again, one, other, was)) =
+by_reply site exchanges observers from m s t e seen p passed (inr (first, bytes, is, again, one, other, was)) =
     let does = subst (λ (x : Heard). AnswersDatagram site from x (record s { moment = moment_of s e; coap = p.server }) p.answer p.middle) is p.answers in record {
       answer = p.answer;
       middle = p.middle;
       nothing = nothing_done e s p.middle t p.answer p.rest seen p.whole p.ends (ap calls_in does.saw) (ap (λ (x : State). x.thing) does.next) (ap (λ (x : State). x.directory) does.next);
       coap = subst (λ (x : Server). OnlyTimePassed (moment_of s e) s.coap x) (sym (ap (λ (x : State). x.coap) does.next)) passed;
-      reply = inr (first, bytes, watchers, does.saw, again, one, other, was);
+      reply = inr (first, bytes, observers, does.saw, again, one, other, was);
     }
 
 pub repeats_act_once : RepeatsActOnce
@@ -179,15 +179,15 @@ record Away (h : Heard) (now : ℕ) (s t : Server) : Type 0 where
   reply : List ℕ
   is : h ≡ answered_at_once reply
   exchanges : t.exchanges ≡ at_moment now s.exchanges
-  watchers : t.watchers ≡ s.watchers
+  observers : t.observers ≡ s.observers
 
 same_exchanges : (kind : RequestType) (s : Server) → (with_id_used kind s).exchanges ≡ s.exchanges
 same_exchanges Confirmable s = refl
 same_exchanges NonConfirmable s = refl
 
-same_watchers : (kind : RequestType) (s : Server) → (with_id_used kind s).watchers ≡ s.watchers
-same_watchers Confirmable s = refl
-same_watchers NonConfirmable s = refl
+same_observers : (kind : RequestType) (s : Server) → (with_id_used kind s).observers ≡ s.observers
+same_observers Confirmable s = refl
+same_observers NonConfirmable s = refl
 
 -- the verdict that it met isn't another
 not_refused : (exchanges : ℕ) (history : List Arrival) (from : Endpoint) (bytes : List ℕ) (now : ℕ) (m n : CoapMessage) (v : Verdict) → Spells m bytes → Spells n bytes
@@ -213,7 +213,7 @@ turned_away exchanges history from bytes now h s t m did past spells request is 
   reply = _;
   is = was;
   exchanges = ap (λ (x : Server). x.exchanges) after ∙ same_exchanges (request_type n.kind) u ∙ met.meets.1.1;
-  watchers = ap (λ (x : Server). x.watchers) after ∙ same_watchers (request_type n.kind) u ∙ met.same_watchers;
+  observers = ap (λ (x : Server). x.observers) after ∙ same_observers (request_type n.kind) u ∙ met.same_observers;
 }
 turned_away exchanges history from bytes now h s t m did past spells request is (admitted n slot u met reads) =
     absurd (differ (not_refused exchanges history from bytes now m n is_admitted spells met.spells is (met_by exchanges history from bytes now n (Fresh slot) s u did past met)))
@@ -234,5 +234,5 @@ full_tables_act_on_nothing site exchanges epoch from m s t e seen comes =
       nothing = subst (λ (a : List Sighting). ActsOnNothing e s a p.middle seen t) does.saw
           (nothing_done e s p.middle t p.answer p.rest seen p.whole p.ends (ap calls_in does.saw) (ap (λ (x : State). x.thing) does.next) (ap (λ (x : State). x.directory) does.next));
       exchanges = ap (λ (x : State). x.coap.exchanges) does.next ∙ away.exchanges;
-      watchers = ap (λ (x : State). x.coap.watchers) does.next ∙ away.watchers;
+      observers = ap (λ (x : State). x.coap.observers) does.next ∙ away.observers;
     }

@@ -12,7 +12,7 @@ use Rattle.coap_msg.specs.Grammar.{CoapMessage, Spells}
 use Rattle.coap_blocks.specs.Bodies.{Body, most_bodies, other_bodies, without_place, with_body}
 use Rattle.coap_blocks.specs.Laws.{Call, adds, clears, after_call, IsLeftOf, no_more, stays as stays_in, goes as goes_from, blocks_among, parts_after}
 use Rattle.coap_blocks.specs.Parts.{Arrival as BlockArrival, Part}
-use Rattle.coap_opts.specs.Reading.{PlainAsk, asked as what_is_asked}
+use Rattle.coap_opts.specs.Reading.{AskSeen, asked as what_is_asked}
 use Rattle.coap_bind.specs.declared.blocks.BlockUse.{BlockUse}
 use Rattle.coap_bind.specs.declared.blocks.BlockUse.TheVariants as blocks
 use Rattle.coap_bind.specs.declared.blocks.Giving.{Giving}
@@ -173,7 +173,7 @@ given_longer site exchanges epoch took es seen shown b g = record {
 }
 
 -- a request is answered, and the event ends: one act is made
-pub acts_once : (site : Site) (what : PlainAsk) (ask : PendingReply) (e : EventWithBytes) (u middle t : State) (answer rest seen : List Sighting)
+pub acts_once : (site : Site) (what : AskSeen) (ask : PendingReply) (e : EventWithBytes) (u middle t : State) (answer rest seen : List Sighting)
     (done : Done) → Answered site what ask done u answer middle → seen ≡ at_network (heard e) ∷ answer ++ rest → EndsEvent middle rest t → ActsOnce site what.request done u seen t
 acts_once site what ask e u middle t answer rest seen done a all ends =
     let quiet = ends_quiet middle t rest ends in
@@ -321,7 +321,7 @@ answered_past site exchanges epoch took seen shown e s t past step d p hears ask
     answers_as : (h : Heard) → p.what ≡ h → AnswersDatagram site d.from h u p.answer p.middle
     answers_as h is = subst (λ (x : Heard). AnswersDatagram site d.from x u p.answer p.middle) is p.answers
 
-    after : (what : PlainAsk) (ask : PendingReply) → AnswersDatagram site d.from (asked what ask) u p.answer p.middle
+    after : (what : AskSeen) (ask : PendingReply) → AnswersDatagram site d.from (asked what ask) u p.answer p.middle
         → ((done : Done) → Answered site what ask done u p.answer p.middle → All Given (bodies_after ask.blocks ask.from done.outcome p.server.bodies))
         → AfterAnswer site exchanges epoch (took ++ e ∷ []) (seen ++ shown) p.server p.middle (moment_of s e)
     after what ask answers given =

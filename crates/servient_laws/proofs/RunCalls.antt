@@ -7,7 +7,7 @@ use Rattle.servient_base.specs.Moves.{Until, is_done, goes_on, Each}
 use Rattle.coap_msg.specs.declared.endpoint.Endpoint.{Endpoint}
 use Rattle.wot_terms.specs.declared.kind.Kind.TheVariants as kind
 use Rattle.thing_handler.specs.Turns.{HandlerCall}
-use Rattle.thing_ops.specs.Requests.{PlainRequest}
+use Rattle.thing_ops.specs.Requests.{RequestSeen}
 use Rattle.thing_site.specs.Site.{Placed, Site, events_of, those_of}
 use Rattle.thing_core.specs.Thing.{Done}
 use Rattle.thing_core.proofs.SlotLaws.{SiteHas}
@@ -64,7 +64,7 @@ datagram_fit site from bytes s t seen (inl long) = fit_none site seen (ap calls_
 datagram_fit site from bytes s t seen (inr (short, (h, w))) =
     fit_then site w.first w.second seen (fit_none site w.first (ap calls_in w.one.2.saw)) (heard_fit site from h w.mid t w.second w.other) w.whole
 
-by_http_fit : (site : Site) (q : PlainRequest) (done : Done) (s t : State) (seen : List Sighting) → PerformsByHttp site q done s seen t → AreFit site seen
+by_http_fit : (site : Site) (q : RequestSeen) (done : Done) (s t : State) (seen : List Sighting) → PerformsByHttp site q done s seen t → AreFit site seen
 by_http_fit site q done s t seen (inl directory) = fit_none site seen (ap calls_in directory.1.3.saw)
 by_http_fit site q done s t seen (inr things) =
     let on = things.1 in fit_calls site on.1 seen (acts_fit site q done s.thing on.1 on.0 on.2) on.3.saw

@@ -15,7 +15,7 @@ use Rattle.thing_ops.specs.declared.request.Accept.{Accept}
 use Rattle.thing_ops.specs.declared.request.Format.{Format}
 use Rattle.thing_ops.specs.declared.request.Format.TheVariants as format
 use Rattle.thing_ops.specs.declared.conditions.Conditions.{Conditions}
-use Rattle.thing_ops.specs.Requests.{PlainRequest}
+use Rattle.thing_ops.specs.Requests.{RequestSeen}
 use Rattle.servient_laws.specs.Spoken.{code_of, format_options, accept_options, tag_options, match_options, absent_options, IsSaidByBoth, IsReadByCoap, IsSpeakable}
 use Rattle.servient_laws.proofs.SpokenOptions.{conditions_in_order, no_fault_of_conditions, other_conditions, conditions_read}
 
@@ -170,7 +170,7 @@ has_code verb.Other is = absurd cc
 class_of : (n : ℕ) → n < 32 → n / 32 ≡ 0
 class_of n small = omega arith
 
-same_request : (q : PlainRequest) (v : Verb) (path : List (List ℕ)) (a : Accept) (f : Format) (c : Conditions)
+same_request : (q : RequestSeen) (v : Verb) (path : List (List ℕ)) (a : Accept) (f : Format) (c : Conditions)
     → v ≡ q.verb → path ≡ q.path → q.query ≡ [] → a ≡ q.accept → f ≡ q.format → c ≡ q.conditions
     → record { verb = v; path = path; query = []; accept = a; format = f; body = q.body; conditions = c } ≡ q
 same_request q v path a f c one two three four five six =
@@ -178,7 +178,7 @@ same_request q v path a f c one two three four five six =
     ∙ ap₂ (λ (y : List ℕ) (x : Accept). record { verb = q.verb; path = q.path; query = y; accept = x; format = f; body = q.body; conditions = c }) (sym three) four
     ∙ ap₂ (λ (x : Format) (y : Conditions). record { verb = q.verb; path = q.path; query = q.query; accept = q.accept; format = x; body = q.body; conditions = y }) five six
 
-pub read_by_coap : (q : PlainRequest) → IsSpeakable q → IsReadByCoap q
+pub read_by_coap : (q : RequestSeen) → IsSpeakable q → IsReadByCoap q
 read_by_coap q can =
     let code = has_code q.verb can.verb in
     let rest = rest_is q.format q.accept.json q.accept.td in

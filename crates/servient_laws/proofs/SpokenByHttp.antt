@@ -25,7 +25,7 @@ use Rattle.thing_ops.specs.declared.verb.Verb.TheVariants as verb
 use Rattle.thing_ops.specs.declared.request.Accept.{Accept}
 use Rattle.thing_ops.specs.declared.request.Format.{Format}
 use Rattle.thing_ops.specs.declared.conditions.Conditions.{Conditions}
-use Rattle.thing_ops.specs.Requests.{PlainRequest}
+use Rattle.thing_ops.specs.Requests.{RequestSeen}
 use Rattle.servient_laws.specs.Spoken.{MayBeAsked, method_of, target_of, header_lines, lines_for, http_head, http_message, IsReadByHttp, IsSpeakable}
 use Rattle.servient_laws.proofs.HeadLines.{AreLines, printed, lines_end, feeds_of_lines, lines_paired}
 use Rattle.servient_laws.proofs.SpokenTargets.{target_bytes, no_query, path_is_read}
@@ -69,16 +69,16 @@ framed f json td n s say size short =
     ∙ ap₂ (λ (x y : Standing). framing_by longest_body true x y) (say.size_is ∙ ap once size.trimmed) say.coding
     ∙ stated n size short
 
-said : (q : PlainRequest) → Says q.format q.accept.json q.accept.td (decimal (length q.body)) (said_by (lines_of (http_head q)))
+said : (q : RequestSeen) → Says q.format q.accept.json q.accept.td (decimal (length q.body)) (said_by (lines_of (http_head q)))
 said q = says_behind q.conditions q.format q.accept.json q.accept.td (decimal (length q.body))
 
-abbrev framed_head : PlainRequest → FramedHead
+abbrev framed_head : RequestSeen → FramedHead
 framed_head q = record { head = http_head q; framing = framing.Stated (length q.body) }
 
-are_lines : (q : PlainRequest) → AllByRecursion (AllByRecursion (λ b. b < 256)) q.path → MayBeAsked q.verb q.conditions → IsSize (length q.body) → AreLines (head_lines q)
+are_lines : (q : RequestSeen) → AllByRecursion (AllByRecursion (λ b. b < 256)) q.path → MayBeAsked q.verb q.conditions → IsSize (length q.body) → AreLines (head_lines q)
 are_lines q bytes may size = (start_is_line q bytes, header_are q may size)
 
-judged : (q : PlainRequest) → AllByRecursion (AllByRecursion (λ b. b < 256)) q.path → MayBeAsked q.verb q.conditions → length (lines_for q) ≤ 64
+judged : (q : RequestSeen) → AllByRecursion (AllByRecursion (λ b. b < 256)) q.path → MayBeAsked q.verb q.conditions → length (lines_for q) ≤ 64
     → IsSize (length q.body) → length q.body ≤ longest_body → IsJudged (printed (head_lines q)) (Ok (framed_head q))
 judged q bytes may most size short =
     one_head (http_head q) few (lines_paired 0 (head_lines q) (λ e. absurd cc) (are_lines q bytes may size))
@@ -116,14 +116,14 @@ verb_back verb.Patch = refl
 verb_back verb.Delete = refl
 verb_back verb.Other = refl
 
-conditions_are : (q : PlainRequest) → MayBeAsked q.verb q.conditions → conditions_of (verb_of (method_of q.verb)) (plain_head_of (http_head q)).asking ≡ q.conditions
+conditions_are : (q : RequestSeen) → MayBeAsked q.verb q.conditions → conditions_of (verb_of (method_of q.verb)) (plain_head_of (http_head q)).asking ≡ q.conditions
 conditions_are q may =
     let none = asks_nothing q.format q.accept.json q.accept.td (decimal (length q.body)) in
     no_other_line_asks (verb_of (method_of q.verb)) (map name_and_value (fields (lines_for q)))
     ∙ (ap (λ (v : Verb). conditions_of v (map name_and_value (fields (lines_for q)))) (verb_back q.verb)
     ∙ conditions_read q.verb q.conditions (header_lines q.format q.accept.json q.accept.td (decimal (length q.body))) may none.matched none.none_matched)
 
-request_is : (q : PlainRequest) → AllByRecursion (AllByRecursion (λ b. b < 256)) q.path → q.query ≡ [] → MayBeAsked q.verb q.conditions → request_at (plain_head_of (http_head q)) q.body q.path ≡ q
+request_is : (q : RequestSeen) → AllByRecursion (AllByRecursion (λ b. b < 256)) q.path → q.query ≡ [] → MayBeAsked q.verb q.conditions → request_at (plain_head_of (http_head q)) q.body q.path ≡ q
 request_is q bytes query may =
     let say = said q in
     ap (λ (c : Conditions). record (request_at (plain_head_of (http_head q)) q.body q.path) { conditions = c }) (conditions_are q may)
@@ -131,7 +131,7 @@ request_is q bytes query may =
     (verb_back q.verb) (no_query (target_of q.path) (target_bytes q.path bytes) ∙ sym query)
     ∙ ap₂ (λ (a : Accept) (f : Format). record q { accept = a; format = f }) say.accept_is say.format_is
 
-asked_is : (q : PlainRequest) → AllByRecursion (AllByRecursion (λ b. b < 256)) q.path → q.path ≢ [] ∷ [] → q.query ≡ [] → MayBeAsked q.verb q.conditions → asked (plain_head_of (http_head q)) q.body ≡ Some q
+asked_is : (q : RequestSeen) → AllByRecursion (AllByRecursion (λ b. b < 256)) q.path → q.path ≢ [] ∷ [] → q.query ≡ [] → MayBeAsked q.verb q.conditions → asked (plain_head_of (http_head q)) q.body ≡ Some q
 asked_is q bytes isnt query may =
     ap (option_map (request_at (plain_head_of (http_head q)) q.body)) (path_is_read q.path bytes isnt) ∙ ap Some (request_is q bytes query may)
 
@@ -145,14 +145,14 @@ no_continue : (b c : Bool) → c ≡ false → (b && c) ≡ false
 no_continue true c isnt = isnt
 no_continue false c isnt = refl
 
-taken : (q : PlainRequest) (m : ℕ) → AllByRecursion (AllByRecursion (λ b. b < 256)) q.path → q.path ≢ [] ∷ [] → q.query ≡ [] → MayBeAsked q.verb q.conditions → to_take false (with_head m (Ok (framed_head q)) q.body) ≡ Some (asks q)
+taken : (q : RequestSeen) (m : ℕ) → AllByRecursion (AllByRecursion (λ b. b < 256)) q.path → q.path ≢ [] ∷ [] → q.query ≡ [] → MayBeAsked q.verb q.conditions → to_take false (with_head m (Ok (framed_head q)) q.body) ≡ Some (asks q)
 taken q m bytes isnt query may =
     let say = said q in
     ap₂ (λ (e : Bool) (b : BodyFront). to_take false (with_body (http_head q) m e b))
     (no_continue (is_newer (http_head q) && has_body (framing.Stated (length q.body))) (said_by (lines_of (http_head q))).continues say.continues) (whole_is q.body)
-    ∙ ap (λ (o : Option PlainRequest). Some (read_as o)) (asked_is q bytes isnt query may)
+    ∙ ap (λ (o : Option RequestSeen). Some (read_as o)) (asked_is q bytes isnt query may)
 
-pub read_by_http : (q : PlainRequest) → IsSpeakable q → IsReadByHttp q
+pub read_by_http : (q : RequestSeen) → IsSpeakable q → IsReadByHttp q
 read_by_http q can =
     let size = is_size (length q.body) can.body in
     let head = printed (head_lines q) in

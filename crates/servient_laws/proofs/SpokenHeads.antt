@@ -21,7 +21,7 @@ use Rattle.thing_ops.specs.declared.verb.Verb.{Verb}
 use Rattle.thing_ops.specs.declared.verb.Verb.TheVariants as verb
 use Rattle.thing_ops.specs.declared.request.Format.{Format}
 use Rattle.thing_ops.specs.declared.request.Format.TheVariants as format
-use Rattle.thing_ops.specs.Requests.{PlainRequest}
+use Rattle.thing_ops.specs.Requests.{RequestSeen}
 use Rattle.thing_ops.specs.declared.conditions.Conditions.{Conditions}
 use Rattle.servient_laws.specs.Spoken.{MayBeAsked, method_of, target_of, type_lines, accept_lines, header_lines, condition_lines, lines_for, http_head}
 use Rattle.servient_laws.proofs.SpokenBytes.{both_all, passes, all_pass, weaker, plain, is_plain, plain_bytes, digits_pass, trims_nothing, field_of, fields, line_of, lines_all, token, IsGood, good, good_all}
@@ -128,13 +128,13 @@ says_behind c f json td size =
 
 -- ---- the head as lines
 
-abbrev pub start_line : PlainRequest → List ℕ
+abbrev pub start_line : RequestSeen → List ℕ
 start_line q = method_of q.verb ++ 32 ∷ target_of q.path ++ 32 ∷ codes "HTTP/1.1"
 
-abbrev pub lines_in : PlainRequest → List (List ℕ × List ℕ)
+abbrev pub lines_in : RequestSeen → List (List ℕ × List ℕ)
 lines_in q = lines_for q
 
-abbrev pub head_lines : PlainRequest → List (List ℕ)
+abbrev pub head_lines : RequestSeen → List (List ℕ)
 head_lines q = start_line q ∷ map line_of (lines_in q)
 
 section_is : (lines : List (List ℕ × List ℕ)) → print_section (fields lines) crlf ≡ printed (map line_of lines)
@@ -144,7 +144,7 @@ section_is (l ∷ lines) =
     ∙ append_assoc (line_of l) (13 ∷ 10 ∷ []) (print_section (fields lines) crlf)
     ∙ ap (λ (x : List ℕ). line_of l ++ 13 ∷ 10 ∷ x) (section_is lines)
 
-pub head_is : (q : PlainRequest) → print_request (http_head q) ≡ printed (head_lines q)
+pub head_is : (q : RequestSeen) → print_request (http_head q) ≡ printed (head_lines q)
 unfolding print_request
 head_is q =
     append_assoc (start_line q) (13 ∷ 10 ∷ []) (print_section (fields (lines_in q)) crlf)
@@ -170,7 +170,7 @@ plain_target path bytes = weaker IsTargetByte IsPlain (target_of path) (λ b saf
     target_no_feed : (b : ℕ) → IsTargetByte b → b ≢ 10
     target_no_feed b safe = let low : 37 ≤ b = safe.0 in omega (arith, low)
 
-pub start_is_line : (q : PlainRequest) → AllByRecursion (AllByRecursion (λ b. b < 256)) q.path → IsLine (start_line q)
+pub start_is_line : (q : RequestSeen) → AllByRecursion (AllByRecursion (λ b. b < 256)) q.path → IsLine (start_line q)
 start_is_line q bytes =
     let method = plain_method q.verb in
     let some : 0 < length (method_of q.verb) = method.1 in (
@@ -208,7 +208,7 @@ header_are_lines f json td n size = (
   ),
 )
 
-pub header_are : (q : PlainRequest) → MayBeAsked q.verb q.conditions → IsSize (length q.body) → AreLines (map line_of (lines_in q))
+pub header_are : (q : RequestSeen) → MayBeAsked q.verb q.conditions → IsSize (length q.body) → AreLines (map line_of (lines_in q))
 header_are q may size =
     lines_all (condition_lines q.conditions) (header_lines q.format q.accept.json q.accept.td (decimal (length q.body))) (conditions_are_lines q.verb q.conditions may)
     (header_are_lines q.format q.accept.json q.accept.td (length q.body) size)
@@ -273,7 +273,7 @@ some_target (segment ∷ path) = omega arith
 target_ascii : (bytes : List ℕ) → AllByRecursion IsTargetByte bytes → IsAscii bytes
 target_ascii bytes all = IsAscii-from_all bytes (All-from_recursion (λ b. b < 128) bytes (weaker IsTargetByte (λ b. b < 128) bytes (λ b safe. let high : b ≤ 70 = safe.1 in omega (arith, high)) all))
 
-pub request_head : (q : PlainRequest) → AllByRecursion (AllByRecursion (λ b. b < 256)) q.path → MayBeAsked q.verb q.conditions → IsSize (length q.body) → IsRequestHead (http_head q)
+pub request_head : (q : RequestSeen) → AllByRecursion (AllByRecursion (λ b. b < 256)) q.path → MayBeAsked q.verb q.conditions → IsSize (length q.body) → IsRequestHead (http_head q)
 request_head q bytes may size = record {
   method = method_token q.verb;
   target = (some_target q.path, All-from_recursion (λ b. IsTrue (is_uri_byte b)) (target_of q.path) (uri_bytes (target_of q.path) (target_bytes q.path bytes)));

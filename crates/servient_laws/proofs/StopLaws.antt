@@ -6,7 +6,7 @@ use Rattle.std.proofs.lemmas.List.{append-nil}
 use Rattle.std.proofs.lemmas.List.Elements.{filter_map-append}
 use Rattle.servient_base.specs.Moves.{Becomes, Each, Until, is_done, goes_on}
 use Rattle.coap_msg.specs.declared.endpoint.Endpoint.{Endpoint}
-use Rattle.thing_ops.specs.Requests.{PlainRequest}
+use Rattle.thing_ops.specs.Requests.{RequestSeen}
 use Rattle.thing_handler.specs.declared.handler.CallKind.TheVariants as call
 use Rattle.thing_handler.specs.Turns.{HandlerCall, RunTurn, missed, turns_in, miss_in, misses_in, times}
 use Rattle.thing_site.specs.Site.{Placed, events_of}
@@ -107,7 +107,7 @@ datagram_tasks site from bytes s t seen (inl long) = becomes site s s t [] seen 
 datagram_tasks site from bytes s t seen (inr (short, (h, w))) =
     tasks_then site [] [] s.thing w.mid.thing t.thing w.first w.second seen (becomes site s (record s { coap = w.one.0 }) w.mid [] w.first w.one.2 refl refl) (heard_tasks site from h w.mid t w.second w.other) w.whole
 
-by_http_tasks : (site : Site) (q : PlainRequest) (done : Done) (s t : State) (seen : List Sighting) → PerformsByHttp site q done s seen t → Tasks site [] s.thing seen t.thing
+by_http_tasks : (site : Site) (q : RequestSeen) (done : Done) (s t : State) (seen : List Sighting) → PerformsByHttp site q done s seen t → Tasks site [] s.thing seen t.thing
 by_http_tasks site q done s t seen (inl directory) = becomes site s (record s { directory = directory.1.0 }) t [] seen directory.1.3 refl refl
 by_http_tasks site q done s t seen (inr things) = one_task site (acts q done) [] s t seen refl things.1
 

@@ -23,10 +23,10 @@ use Rattle.coap_blocks.specs.declared.added.Added.{Added}
 use Rattle.coap_blocks.specs.declared.added.Added.TheVariants.{Complete}
 use Rattle.coap_blocks.proofs.BodyLaws.{own_is}
 use Rattle.coap_blocks.proofs.PartLaws.{whole_bodies_are_rows}
-use Rattle.coap_opts.specs.Reading.{PlainAsk, faults_of, asked as what_is_asked}
+use Rattle.coap_opts.specs.Reading.{AskSeen, faults_of, asked as what_is_asked}
 use Rattle.coap_opts.specs.declared.fault.AskFault.{AskFault}
-use Rattle.coap_bind.specs.declared.blocks.Wanted.{Wanted}
-use Rattle.coap_bind.specs.declared.blocks.Wanted.TheVariants as wanted
+use Rattle.coap_bind.specs.declared.blocks.BlockWish.{BlockWish}
+use Rattle.coap_bind.specs.declared.blocks.BlockWish.TheVariants as wanted
 use Rattle.coap_bind.specs.declared.pending.PendingReply.{PendingReply}
 use Rattle.coap_bind.specs.declared.server.Server.{Server}
 use Rattle.coap_bind.specs.Blocks.{use_of, portion_at, content_reply, block_reply, later_reply, added_reply}
@@ -138,13 +138,13 @@ at_once site from m s t e seen p slot u r parts bytes same replies is =
 -- ---- what is asked
 
 -- one act is made, what it gives is said, and the parts are as they were
-record ActsAndSays (site : Site) (from : Endpoint) (what : PlainAsk) (ask : PendingReply) (server : Server) (s : State) (seen : List Sighting) (t : State) : Type 0 where
+record ActsAndSays (site : Site) (from : Endpoint) (what : AskSeen) (ask : PendingReply) (server : Server) (s : State) (seen : List Sighting) (t : State) : Type 0 where
   done : Done
   once : ActsOnce site what.request done s seen t
   says : SaysByCoap from ask.blocks done.outcome seen
   left : t.coap.parts ≡ server.parts
 
-acts_and_says : (site : Site) (from : Endpoint) (s t : State) (e : EventWithBytes) (seen : List Sighting) (p : Parts site from e.bytes e s seen t) (what : PlainAsk) (ask : PendingReply)
+acts_and_says : (site : Site) (from : Endpoint) (s t : State) (e : EventWithBytes) (seen : List Sighting) (p : Parts site from e.bytes e s seen t) (what : AskSeen) (ask : PendingReply)
     → p.what ≡ asked what ask → ActsAndSays site from what ask p.server s seen t
 acts_and_says site from s t e seen p what ask is =
     let u = record s { moment = moment_of s e; coap = p.server } in
@@ -165,7 +165,7 @@ acts_and_says site from s t e seen p what ask is =
 both_paths : (m : CoapMessage) → asks_links m ≡ true → asks_links m ≡ false → ⊥
 both_paths m is isnt = cc
 
-clash : (a b : Wanted) (m : CoapMessage) → wanted_in m ≡ a → wanted_in m ≡ b → a ≡ b
+clash : (a b : BlockWish) (m : CoapMessage) → wanted_in m ≡ a → wanted_in m ≡ b → a ≡ b
 clash a b m one other = sym one ∙ other
 
 pub requests_act_once : RequestsActOnce

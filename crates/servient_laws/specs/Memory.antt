@@ -1,7 +1,7 @@
 -- The trace of a request that was out of memory: the one thing that the machine leaves open.
 use Rattle.std.specs.Prelude.{◌≡◌, ◌⊎◌, ℕ, List, [], ◌∷◌, ◌++◌}
 use Rattle.thing_ops.specs.declared.outcome.Outcome.TheVariants as outcome
-use Rattle.thing_ops.specs.Requests.{PlainRequest}
+use Rattle.thing_ops.specs.Requests.{RequestSeen}
 use Rattle.thing_handler.specs.Turns.{HandlerCall, missed}
 use Rattle.thing_site.specs.Site.{Site}
 use Rattle.thing_core.specs.State.{State}
@@ -22,5 +22,5 @@ pub record EndsInMiss (seen : List HandlerCall) : Type 0 where
 -- handler that was.
 abbrev pub MemoryIsSeen : Type 0
 MemoryIsSeen =
-    (site : Site) (q : PlainRequest) (done : Done) (s t : State) (seen : List HandlerCall)
+    (site : Site) (q : RequestSeen) (done : Done) (s t : State) (seen : List HandlerCall)
     → Acts site q done s seen t → done.outcome ≡ outcome.Memory → LeavesAll s seen t ⊎ EndsInMiss seen

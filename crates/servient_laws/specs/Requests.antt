@@ -69,10 +69,10 @@ pub record ActsNoMore (exchanges : ℕ) (from : Endpoint) (m : CoapMessage) (s :
   pub coap : OnlyTimePassed (moment_of s e) s.coap middle.coap
   pub reply :
       (answer ≡ [])
-      ⊎ ((first : Arrival) × (bytes : List ℕ) × (watchers : ℕ) × (answer ≡ sends_back from bytes)
+      ⊎ ((first : Arrival) × (bytes : List ℕ) × (observers : ℕ) × (answer ≡ sends_back from bytes)
       × (is_duplicate_of (arrival from (moment_of s e) m) first ≡ true)
       × (request_type m.kind ≡ Confirmable) × (first.kind ≡ Confirmable)
-      × WasRepliedTo (nothing_came exchanges watchers) first bytes s.coap)
+      × WasRepliedTo (nothing_came exchanges observers) first bytes s.coap)
 
 -- One that finds as many exchanges alive as may: one datagram is sent back, and no exchange and no observer is added.
 pub record IsTurnedAway (from : Endpoint) (s : State) (e : EventWithBytes) (seen : List Sighting) (t : State) : Type 0 where
@@ -80,7 +80,7 @@ pub record IsTurnedAway (from : Endpoint) (s : State) (e : EventWithBytes) (seen
   pub middle : State
   pub nothing : ActsOnNothing e s (sends_back from reply) middle seen t
   pub exchanges : middle.coap.exchanges ≡ at_moment (moment_of s e) s.coap.exchanges
-  pub watchers : middle.coap.watchers ≡ s.coap.watchers
+  pub observers : middle.coap.observers ≡ s.coap.observers
 
 -- ---- the sentences
 

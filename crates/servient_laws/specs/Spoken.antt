@@ -18,7 +18,7 @@ use Rattle.thing_ops.specs.declared.request.Format.{Format}
 use Rattle.thing_ops.specs.declared.request.Format.TheVariants as format
 use Rattle.thing_ops.specs.declared.conditions.Tags.{Tags}
 use Rattle.thing_ops.specs.declared.conditions.Conditions.{Conditions}
-use Rattle.thing_ops.specs.Requests.{PlainRequest}
+use Rattle.thing_ops.specs.Requests.{RequestSeen}
 use Rattle.http_wire.specs.Conditions.{entity_tag}
 use Rattle.http_wire.specs.Judging.{longest_body}
 use Rattle.http_wire.specs.Stream.{Front, IsFront, longest_head}
@@ -89,7 +89,7 @@ accept_options false true = (ACCEPT, number_bytes TD_JSON) ∷ []
 accept_options false false = (ACCEPT, []) ∷ []
 
 -- a message that asks for it
-abbrev pub coap_message : PlainRequest → CoapMessage
+abbrev pub coap_message : RequestSeen → CoapMessage
 coap_message q = record {
   kind = Con;
   code = unwrap_or (code_of q.verb) 0;
@@ -101,7 +101,7 @@ coap_message q = record {
 }
 
 -- It is a message and a request, nothing is wrong with its options, it names no block, and it asks for that.
-pub record IsReadByCoap (q : PlainRequest) : Type 0 where
+pub record IsReadByCoap (q : RequestSeen) : Type 0 where
   pub spells : Spells (coap_message q) (spelling (coap_message q))
   pub request : is_request (coap_message q) ≡ true
   pub options : faults_of (coap_message q).options ≡ []
@@ -165,11 +165,11 @@ abbrev pub condition_lines : Conditions → List (List ℕ × List ℕ)
 condition_lines c = match_lines c.if_match ++ (tag_lines (codes "If-None-Match") c.known.list ++ absent_lines c.absent)
 
 -- all header lines
-abbrev pub lines_for : PlainRequest → List (List ℕ × List ℕ)
+abbrev pub lines_for : RequestSeen → List (List ℕ × List ℕ)
 lines_for q = condition_lines q.conditions ++ header_lines q.format q.accept.json q.accept.td (decimal (length q.body))
 
 -- the head of a message that asks for it
-abbrev pub http_head : PlainRequest → RequestHead
+abbrev pub http_head : RequestSeen → RequestHead
 http_head q = record {
   blank = [];
   method = method_of q.verb;
@@ -180,11 +180,11 @@ http_head q = record {
   last = crlf;
 }
 
-abbrev pub http_message : PlainRequest → List ℕ
+abbrev pub http_message : RequestSeen → List ℕ
 http_message q = print_request (http_head q) ++ q.body
 
 -- The front of it is taken for that message.
-abbrev pub IsReadByHttp : PlainRequest → Type 0
+abbrev pub IsReadByHttp : RequestSeen → Type 0
 IsReadByHttp q = (f : Front) × IsFront (http_message q) f × (to_take false f ≡ Some (asks q))
 
 -- ---- the law
@@ -192,7 +192,7 @@ IsReadByHttp q = (f : Front) × IsFront (http_message q) f × (to_take false f �
 -- Both bindings can say a request: it has no query, its verb has a code, its format isn't that of a merge patch, its
 -- path is one of segments of at most 255 bytes, and isn't the one empty segment; both can say what it asks of versions;
 -- and it fits into messages of both.
-pub record IsSpeakable (q : PlainRequest) : Type 0 where
+pub record IsSpeakable (q : RequestSeen) : Type 0 where
   pub verb : IsSome (code_of q.verb)
   pub query : q.query ≡ []
   pub conditions : MayBeAsked q.verb q.conditions
@@ -207,4 +207,4 @@ pub record IsSpeakable (q : PlainRequest) : Type 0 where
 
 -- Each such request is read from a message of either binding.
 abbrev pub RequestsAreSpoken : Type 0
-RequestsAreSpoken = (q : PlainRequest) → IsSpeakable q → IsReadByCoap q × IsReadByHttp q
+RequestsAreSpoken = (q : RequestSeen) → IsSpeakable q → IsReadByCoap q × IsReadByHttp q

@@ -4,7 +4,7 @@ use Rattle.std.specs.Prelude.{◌≡◌, ◌<◌, ◌≤◌, ◌+◌, ◌-◌, �
 use Rattle.std.specs.List.{filter_map, flat_map}
 use Rattle.servient_base.specs.Moves.{Stays, Then, Each}
 use Rattle.thing_ops.specs.declared.outcome.Outcome.TheVariants as outcome
-use Rattle.thing_ops.specs.Requests.{PlainRequest}
+use Rattle.thing_ops.specs.Requests.{RequestSeen}
 use Rattle.thing_handler.specs.Handler.{Seen}
 use Rattle.thing_handler.specs.Turns.{HandlerCall, missed, turns_in}
 use Rattle.thing_site.specs.Site.{Placed, events_of}
@@ -23,7 +23,7 @@ use Rattle.servient_core.specs.Serving.{Serves}
 -- One thing that it does: an event affordance is polled, or a request is acted on.
 pub data Task : Type 0 where
   polls : Placed → List Emission → Task
-  acts : PlainRequest → Done → Task
+  acts : RequestSeen → Done → Task
 
 abbrev pub DoesTask : Site → Task → Move
 DoesTask site (polls p emissions) = PollsEvent p emissions

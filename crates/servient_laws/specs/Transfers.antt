@@ -15,13 +15,13 @@ use Rattle.coap_blocks.specs.declared.added.Added.{Added}
 use Rattle.coap_blocks.specs.declared.added.Added.TheVariants.{Complete}
 use Rattle.coap_blocks.specs.Paths.{lives}
 use Rattle.coap_opts.specs.Reading.{faults_of, asked as what_is_asked}
-use Rattle.coap_bind.specs.declared.blocks.Wanted.TheVariants as wanted
+use Rattle.coap_bind.specs.declared.blocks.BlockWish.TheVariants as wanted
 use Rattle.coap_bind.specs.Blocks.{use_of, portion_at, content_reply, block_reply, added_reply}
 use Rattle.coap_bind.specs.Server.{asks_links, observing_in, wanted_in, with_whole_body, block_arrival, Adds}
 use Rattle.coap_bind.specs.Writing.{Reply, reply_of, head_of, coap_reply}
 use Rattle.thing_ops.specs.declared.outcome.Outcome.TheVariants as outcome
 use Rattle.thing_ops.specs.Outcomes.{payload_of}
-use Rattle.thing_ops.specs.Requests.{PlainRequest}
+use Rattle.thing_ops.specs.Requests.{RequestSeen}
 use Rattle.thing_core.specs.Thing.{Done, Acts}
 use Rattle.servient_outside.specs.declared.net.EventWithBytes.{EventWithBytes}
 use Rattle.servient_core.specs.Trace.{Sighting, calls_in}
@@ -34,7 +34,7 @@ use Rattle.servient_laws.specs.Requests.{Brings, moment_of, ComesTo, ActsOnNothi
 
 -- One act is made on this request, and it is all that the event does to the Things: each call of the event is a call of
 -- it.
-abbrev pub ActsOnce : Site → PlainRequest → Done → State → List Sighting → State → Type 0
+abbrev pub ActsOnce : Site → RequestSeen → Done → State → List Sighting → State → Type 0
 ActsOnce site q done s seen t = Acts site q done s.thing (calls_in seen) t.thing
 
 -- No act is made, and this is sent back to the request.

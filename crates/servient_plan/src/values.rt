@@ -261,12 +261,12 @@ fn number_in(value: Option<&Tree>, least: u32, most: u32) -> Option<u32>
     ensures { result ≡ spec.number_within least most (option_map (λ t. json_of t.now) value.entry) }
 {
     match value {
-        Some(tree) => number_of(tree, least, most),
+        Some(tree) => number_in_value(tree, least, most),
         None => None,
     }
 }
 
-fn number_of(tree: &Tree, least: u32, most: u32) -> Option<u32>
+fn number_in_value(tree: &Tree, least: u32, most: u32) -> Option<u32>
     ensures { result ≡ spec.number_within least most (Some (json_of tree.now)) }
 {
     match tree {
@@ -335,7 +335,7 @@ fn exchanges_in(value: Option<&Tree>) -> Option<u32>
     ensures { result ≡ spec.exchanges_in (option_map (λ t. json_of t.now) value.entry) }
 {
     match value {
-        Some(tree) => number_of(tree, LEAST_EXCHANGES, MOST_EXCHANGES),
+        Some(tree) => number_in_value(tree, LEAST_EXCHANGES, MOST_EXCHANGES),
         None => Some(USUAL_EXCHANGES),
     }
 }

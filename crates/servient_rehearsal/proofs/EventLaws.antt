@@ -16,7 +16,7 @@ use Rattle.servient_core.specs.Trace.{Sighting}
 use Rattle.servient_core.specs.Machine.{Site, State, EventAndStep}
 use Rattle.servient_core.specs.declared.layers.Layers.{Layers}
 use Rattle.servient_world.specs.World.{WorldState, Datagram, Purpose, server_place, is_end, other, purpose_back, acts_for, id_used, with_sent, may_come}
-use Rattle.servient_ends.specs.Ends.{EndsState, Turn, delivers, passes, happens, act_of, back_of, emitted_by_datagram, emitted_by, notices_in, with_emissions, with_notices, event_at, ServientHears, ServientDoes, to_servient, comes_from_elsewhere, is_of_an_end as is_of_one, datagrams_in}
+use Rattle.servient_ends.specs.Ends.{EndsState, Turn, delivers, passes, happens, act_of, back_of, emitted_by_datagram, emitted_by, notifications_in, with_emissions, with_notifications, event_at, ServientHears, ServientDoes, to_servient, comes_from_elsewhere, is_of_an_end as is_of_one, datagrams_in}
 use Rattle.servient_ends.proofs.StepParts.{IsNoDatagram}
 use Rattle.servient_ends.proofs.SeenLaws.{hearing_sends, doing_sends}
 use Rattle.servient_rehearsal.specs.declared.notes.Notes.{Notes}
@@ -25,7 +25,7 @@ use Rattle.servient_rehearsal.specs.Moves.{is_possible, is_given, is_of_an_end, 
 use Rattle.servient_rehearsal.specs.Noted.{Noted, noted_of, with_datagrams, shown_datagram}
 use Rattle.servient_rehearsal.specs.Turns.{Played, TakesTurn}
 use Rattle.servient_rehearsal.specs.Playing.{kept, IsShown, AreNoted, PlaysTurn, PlaysTurnAtMost, StepsFrom, HearsAndNotes, HearsAtMost, may_come_now}
-use Rattle.servient_rehearsal.proofs.NotedLaws.{event_shown, notices_noted, shown_at}
+use Rattle.servient_rehearsal.proofs.NotedLaws.{event_shown, notifications_noted, shown_at}
 use Rattle.servient_rehearsal.proofs.TurnLaws.{shows_none, arrives_turn, Turned, Turns, nothing_done}
 use Rattle.servient_rehearsal.proofs.ClientLaws.{passed_turn}
 use Rattle.servient_rehearsal.proofs.StepLaws.{StepsLike, uncut}
@@ -36,7 +36,7 @@ use Rattle.servient_rehearsal.proofs.StepLaws.{StepsLike, uncut}
 abbrev heard_world : (site : Site) (from : Endpoint) (size : ℕ) (bytes : List ℕ) (purpose : Purpose) (p : EndsState) (t : State) (seen : List Sighting)
     → EventAndStep site (event_at p.world.moment (what.Datagram from size) bytes) p.servient seen t → WorldState
 heard_world site from size bytes purpose p t seen step =
-    with_notices t.thing (notices_in step.other.mid step.other.second t step.other.other)
+    with_notifications t.thing (notifications_in step.other.mid step.other.second t step.other.other)
     (with_emissions (emitted_by_datagram site from bytes (record step.mid { moment = max step.mid.moment p.world.moment }) step.other.first step.other.mid step.other.one)
     (with_sent (record p.world {
       server = t.coap;
@@ -48,7 +48,7 @@ heard_world site from size bytes purpose p t seen step =
 abbrev done_world : (site : Site) (w : What) (bytes : List ℕ) (p : EndsState) (t : State) (seen : List Sighting)
     → EventAndStep site (event_at p.world.moment w bytes) p.servient seen t → WorldState
 done_world site w bytes p t seen step =
-    with_notices t.thing (notices_in step.other.mid step.other.second t step.other.other)
+    with_notifications t.thing (notifications_in step.other.mid step.other.second t step.other.other)
     (with_emissions (emitted_by site w bytes (record step.mid { moment = max step.mid.moment p.world.moment }) step.other.first step.other.mid step.other.one)
     (record p.world { server = t.coap }))
 
@@ -93,7 +93,7 @@ heard_turned site m from size bytes purpose p old new client notes before after 
     let step = steps.step in
     let s1 : State = record step.mid { moment = max step.mid.moment p.ends.world.moment } in
     let back : List (List ℕ) = back_of site from bytes s1 step.other.first step.other.mid step.other.one in
-    let ns : List Notice = notices_in step.other.mid step.other.second steps.state step.other.other in
+    let ns : List Notice = notifications_in step.other.mid step.other.second steps.state step.other.other in
     let w : WorldState = with_emissions (emitted_by_datagram site from bytes s1 step.other.first step.other.mid step.other.one) (with_sent (record p.ends.world {
       server = steps.state.coap;
       acts = p.ends.world.acts ++ acts_for purpose (act_of site from bytes s1 step.other.first step.other.mid step.other.one);
@@ -127,7 +127,7 @@ done_turned : (site : Site) (m : Turn) (x : What) (bytes : List ℕ) (p : Played
 done_turned site m x bytes p old new client notes before after plain are steps takes =
     let step = steps.step in
     let s1 : State = record step.mid { moment = max step.mid.moment p.ends.world.moment } in
-    let ns : List Notice = notices_in step.other.mid step.other.second steps.state step.other.other in
+    let ns : List Notice = notifications_in step.other.mid step.other.second steps.state step.other.other in
     let w : WorldState = with_emissions (emitted_by site x bytes s1 step.other.first step.other.mid step.other.one) (record p.ends.world { server = steps.state.coap }) in
     let q : Played = record { ends = record { world = done_world site x bytes p.ends steps.state steps.seen steps.step; servient = steps.state }; values = p.values } in
     record {
@@ -139,7 +139,7 @@ done_turned site m x bytes p old new client notes before after plain are steps t
       shows = steps.rack;
       shown = record {
         moment = are.shown.moment;
-        sent = notices_noted notes.world.sent.items p.ends.world.sent notes.world.moment w steps.state.thing ns (datagrams_in steps.seen) are.shown.sent are.shown.moment
+        sent = notifications_noted notes.world.sent.items p.ends.world.sent notes.world.moment w steps.state.thing ns (datagrams_in steps.seen) are.shown.sent are.shown.moment
             (doing_sends site p.ends.world.moment x bytes p.ends.servient steps.state steps.seen plain steps.step);
         asks = are.shown.asks;
         ends = are.shown.ends;

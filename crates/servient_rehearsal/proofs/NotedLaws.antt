@@ -9,9 +9,9 @@ use Rattle.coap_msg.specs.Grammar.{CoapMessage, spelling, type_bits}
 use Rattle.coap_client.specs.declared.outstanding.Outstanding.{Outstanding}
 use Rattle.coap_observe.specs.declared.notice.Notice.{Notice}
 use Rattle.thing_core.specs.State.{State as ThingState}
-use Rattle.servient_core.specs.Machine.{notice_bytes}
+use Rattle.servient_core.specs.Machine.{notification_bytes}
 use Rattle.servient_world.specs.World.{WorldState, Datagram, Purpose, AskEnd as AskEndInWorld, End as EndInWorld, server_place, sent_now, latest}
-use Rattle.servient_ends.specs.Ends.{notice_of}
+use Rattle.servient_ends.specs.Ends.{notification_of}
 use Rattle.servient_ends.proofs.SeenLaws.{back_to, noticed}
 use Rattle.servient_rehearsal.specs.declared.world.SentDatagram.{SentDatagram}
 use Rattle.servient_rehearsal.specs.declared.world.AskMade.{AskMade}
@@ -119,38 +119,38 @@ back_shown : (moment : ℕ) (from : Endpoint) (purpose : Purpose) (said : List (
 back_shown moment from purpose [] = refl
 back_shown moment from purpose (bytes ∷ said) = ap (λ (l : List SentDatagram). record { moment = moment; from = server_place; to = from; bytes = bytes } ∷ l) (back_shown moment from purpose said)
 
-notices_shown : (w : WorldState) (thing : ThingState) (ns : List Notice) → map shown_datagram (map (notice_of w thing) ns) ≡ map (as_sent w.moment) (noticed thing ns)
-notices_shown w thing [] = refl
-notices_shown w thing (n ∷ ns) =
-    ap (λ (l : List SentDatagram). record { moment = w.moment; from = server_place; to = n.to; bytes = notice_bytes n thing } ∷ l) (notices_shown w thing ns)
+notifications_shown : (w : WorldState) (thing : ThingState) (ns : List Notice) → map shown_datagram (map (notification_of w thing) ns) ≡ map (as_sent w.moment) (noticed thing ns)
+notifications_shown w thing [] = refl
+notifications_shown w thing (n ∷ ns) =
+    ap (λ (l : List SentDatagram). record { moment = w.moment; from = server_place; to = n.to; bytes = notification_bytes n thing } ∷ l) (notifications_shown w thing ns)
 
 -- the datagrams that were sent back and the notifications are noted
 pub event_shown : (noted : List SentDatagram) (sent : List Datagram) (now : ℕ) (w : WorldState) (from : Endpoint) (purpose : Purpose) (said : List (List ℕ)) (thing : ThingState) (ns : List Notice) (all : List (Endpoint × List ℕ))
     → noted ≡ map shown_datagram sent → now ≡ w.moment → all ≡ back_to from said ++ noticed thing ns
-    → noted ++ map (as_sent now) all ≡ map shown_datagram ((sent ++ sent_now w.moment server_place from purpose said) ++ map (notice_of w thing) ns)
+    → noted ++ map (as_sent now) all ≡ map shown_datagram ((sent ++ sent_now w.moment server_place from purpose said) ++ map (notification_of w thing) ns)
 event_shown noted sent now w from purpose said thing ns all is same whole =
     let back : List Datagram = sent_now w.moment server_place from purpose said in
-    let notices : List Datagram = map (notice_of w thing) ns in
+    let notices : List Datagram = map (notification_of w thing) ns in
     let one : noted ++ map (as_sent now) all ≡ map shown_datagram sent ++ map (as_sent w.moment) (back_to from said ++ noticed thing ns)
     = λ i. is i ++ map (as_sent (same i)) (whole i) in
     let two : map (as_sent w.moment) (back_to from said ++ noticed thing ns) ≡ map (as_sent w.moment) (back_to from said) ++ map (as_sent w.moment) (noticed thing ns)
     = map-append (as_sent w.moment) (back_to from said) (noticed thing ns) in
     let three : map (as_sent w.moment) (back_to from said) ++ map (as_sent w.moment) (noticed thing ns) ≡ map shown_datagram back ++ map shown_datagram notices
-    = λ i. sym (back_shown w.moment from purpose said) i ++ sym (notices_shown w thing ns) i in
+    = λ i. sym (back_shown w.moment from purpose said) i ++ sym (notifications_shown w thing ns) i in
     let four : map shown_datagram back ++ map shown_datagram notices ≡ map shown_datagram (back ++ notices) = sym (map-append shown_datagram back notices) in
     let five : map shown_datagram sent ++ map shown_datagram (back ++ notices) ≡ map shown_datagram ((sent ++ back) ++ notices)
     = sym (map-append shown_datagram sent (back ++ notices)) ∙ ap (map shown_datagram) (sym (append_assoc sent back notices)) in
     one ∙ (ap (λ (l : List SentDatagram). map shown_datagram sent ++ l) (two ∙ (three ∙ four)) ∙ five)
 
 -- the notifications alone are
-pub notices_noted : (noted : List SentDatagram) (sent : List Datagram) (now : ℕ) (w : WorldState) (thing : ThingState) (ns : List Notice) (all : List (Endpoint × List ℕ))
+pub notifications_noted : (noted : List SentDatagram) (sent : List Datagram) (now : ℕ) (w : WorldState) (thing : ThingState) (ns : List Notice) (all : List (Endpoint × List ℕ))
     → noted ≡ map shown_datagram sent → now ≡ w.moment → all ≡ noticed thing ns
-    → noted ++ map (as_sent now) all ≡ map shown_datagram (sent ++ map (notice_of w thing) ns)
-notices_noted noted sent now w thing ns all is same whole =
+    → noted ++ map (as_sent now) all ≡ map shown_datagram (sent ++ map (notification_of w thing) ns)
+notifications_noted noted sent now w thing ns all is same whole =
     let one : noted ++ map (as_sent now) all ≡ map shown_datagram sent ++ map (as_sent w.moment) (noticed thing ns)
     = λ i. is i ++ map (as_sent (same i)) (whole i) in
     one
-    ∙ (ap (λ (l : List SentDatagram). map shown_datagram sent ++ l) (sym (notices_shown w thing ns)) ∙ sym (map-append shown_datagram sent (map (notice_of w thing) ns)))
+    ∙ (ap (λ (l : List SentDatagram). map shown_datagram sent ++ l) (sym (notifications_shown w thing ns)) ∙ sym (map-append shown_datagram sent (map (notification_of w thing) ns)))
 
 -- ---- what stands at a number
 

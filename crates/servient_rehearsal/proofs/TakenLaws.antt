@@ -29,12 +29,12 @@ use Rattle.servient_outside.specs.declared.net.What.TheVariants as what
 use Rattle.servient_core.specs.declared.capacity.TheConstants.{MOST_WATCHERS}
 use Rattle.servient_core.specs.Trace.{Sighting}
 use Rattle.servient_core.specs.Machine.{Site}
-use Rattle.servient_world.specs.World.{WorldState, Datagram, Purpose, Value, client_place, server_place, reply_to, notice_for, value_by, taken_by, ClientAsks, sends_ask, refuses_ask, skips_ask, ClientDoesDue, retransmits, gives_up, waits}
+use Rattle.servient_world.specs.World.{WorldState, Datagram, Purpose, Value, client_place, server_place, reply_to, notification_for, value_by, taken_by, ClientAsks, sends_ask, refuses_ask, skips_ask, ClientDoesDue, retransmits, gives_up, waits}
 use Rattle.servient_world.proofs.Places.{all_at, at_last, at_more}
 use Rattle.servient_world.proofs.WatchLaws.{same_registration}
 use Rattle.servient_world.proofs.Exact.{IsSaid}
 use Rattle.servient_world.proofs.ValueLaws.{value_says, notified_says, observed_some}
-use Rattle.servient_world.proofs.TakenLaws.{IsFor, back_on, notice_of, is_for_end}
+use Rattle.servient_world.proofs.TakenLaws.{IsFor, back_on, notification_of, is_for_end}
 use Rattle.servient_world.proofs.EndLaws.{Stands, stands_after_all, stands_at_start}
 use Rattle.servient_ends.specs.Ends.{EndsState, IsBeginning, Turn, asks_next, does_due, delivers, passes, happens, Arrives, too_late, to_client, to_servient, ArrivesIfSent, FromElsewhere, comes_from_elsewhere, is_of_an_end, Besides, Takes, TakesAll}
 use Rattle.servient_ends.proofs.TurnLaws.{turns_play}
@@ -112,7 +112,7 @@ value_for exchanges w i d m s few (back_on k is sent) spells q e payload =
     let same : k ≡ last_registration w.asks
     = same_registration w.asks k (last_registration w.asks) right.request last.request (registrations_differ w.asks w.client s.holds.did few) right.ask last.at number.1 last.registers_it (token ∙ sym last.token_is) in
     shown_for d (reply_to k) k (last_registration w.asks) payload is refl same
-value_for exchanges w i d m s few (notice_of k q0 emission is n_of) spells q e payload =
+value_for exchanges w i d m s few (notification_of k q0 emission is n_of) spells q e payload =
     let one : m ≡ notification n_of.notice n_of.value = at_most_one_message m (notification n_of.notice n_of.value) d.bytes spells n_of.spells in
     let says = value_says (at_moment w.moment w.client) d.from m q e in
     let shown = notified_says (at_moment w.moment w.client) d.from m q says.0 in
@@ -121,7 +121,7 @@ value_for exchanges w i d m s few (notice_of k q0 emission is n_of) spells q e p
     let last = last_observed w.asks w.client s.holds.did seen.0 seen.1 in
     let same : k ≡ last_registration w.asks
     = same_registration w.asks k (last_registration w.asks) n_of.request last.request (registrations_differ w.asks w.client s.holds.did few) n_of.ask last.at n_of.registers last.registers_it (token ∙ sym last.token_is) in
-    shown_for d (notice_for k q0 emission) k (last_registration w.asks) payload is refl same
+    shown_for d (notification_for k q0 emission) k (last_registration w.asks) payload is refl same
 
 value_delivered : (exchanges : ℕ) (w : WorldState) (i : ℕ) (d : Datagram) (told : Delivered) (old new : List ℕ) (t : ClientState) → Stands exchanges MOST_WATCHERS w → length w.asks ≤ 65536 → slice_get w.sent i ≡ Some d
     → d.to ≡ client_place → Delivers (at_moment w.moment w.client) d.from d.bytes told old new t → values_in (last_registration w.asks) told.news ≡ shown_values (taken_by d.purpose told.news)

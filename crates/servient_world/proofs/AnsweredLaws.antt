@@ -21,7 +21,7 @@ use Rattle.servient_world.proofs.Joins.{joins_at_start}
 use Rattle.servient_world.proofs.WatchLaws.{Watched}
 use Rattle.servient_world.proofs.Exact.{Exact, IsKept, IsSaid, IsEnd}
 use Rattle.servient_world.proofs.ClientLaws.{exact_asked, exact_copied, exact_client, exact_same, for_client, exact_taken, exact_noticed}
-use Rattle.servient_world.proofs.NoticeLaws.{not_place}
+use Rattle.servient_world.proofs.NotificationLaws.{not_place}
 use Rattle.servient_world.proofs.ServedLaws.{exact_silent, exact_elsewhere, exact_received, exact_server, exact_noted}
 
 -- ---- the moves
@@ -47,18 +47,18 @@ exact_take capacity d w v y h few x said to =
       | inr note ↦ exact_noticed capacity d w y.told y.old y.new y.after h few x it.0 note.0 note.1 y.delivers
     ])
 
-exact_come : (capacity watchers : ℕ) (d : Datagram) (w v : WorldState) → Comes d w v → Holds capacity w → Holds capacity v → length w.asks ≤ 65536 → Watched watchers w → (x : Exact w)
+exact_come : (capacity observers : ℕ) (d : Datagram) (w v : WorldState) → Comes d w v → Holds capacity w → Holds capacity v → length w.asks ≤ 65536 → Watched observers w → (x : Exact w)
     → IsSentFor w.asks d d.purpose → IsSaid w.asks w.acts x.led d d.purpose → d.moment ≤ w.moment → Exact v
-exact_come capacity watchers d w v (too_late late is) h h_after few y x sent said past = subst Exact (sym is) x
-exact_come capacity watchers d w v (to_client may to take_it) h h_after few y x sent said past = exact_take capacity d w v take_it h few x said to
-exact_come capacity watchers d w v (to_server may to serve) h h_after few y x sent said past =
-    exact_received capacity watchers d w v serve h h_after few y x sent said to past (came_soon w.moment d may)
+exact_come capacity observers d w v (too_late late is) h h_after few y x sent said past = subst Exact (sym is) x
+exact_come capacity observers d w v (to_client may to take_it) h h_after few y x sent said past = exact_take capacity d w v take_it h few x said to
+exact_come capacity observers d w v (to_server may to serve) h h_after few y x sent said past =
+    exact_received capacity observers d w v serve h h_after few y x sent said to past (came_soon w.moment d may)
 
-exact_deliver : (capacity watchers : ℕ) (w v : WorldState) (i : ℕ) (o : Option Datagram) → slice_get w.sent i ≡ o → ComesIfSent o w v → Holds capacity w → Holds capacity v → length w.asks ≤ 65536
-    → Watched watchers w → Exact w → Exact v
-exact_deliver capacity watchers w v i None e is h h_after few y x = subst Exact (sym is) x
-exact_deliver capacity watchers w v i (Some d) e is h h_after few y x =
-    exact_come capacity watchers d w v is h h_after few y x (all_at (λ (z : Datagram). IsSentFor w.asks z z.purpose) w.sent i d h.purposes e)
+exact_deliver : (capacity observers : ℕ) (w v : WorldState) (i : ℕ) (o : Option Datagram) → slice_get w.sent i ≡ o → ComesIfSent o w v → Holds capacity w → Holds capacity v → length w.asks ≤ 65536
+    → Watched observers w → Exact w → Exact v
+exact_deliver capacity observers w v i None e is h h_after few y x = subst Exact (sym is) x
+exact_deliver capacity observers w v i (Some d) e is h h_after few y x =
+    exact_come capacity observers d w v is h h_after few y x (all_at (λ (z : Datagram). IsSentFor w.asks z z.purpose) w.sent i d h.purposes e)
     (all_at (λ (z : Datagram). IsSaid w.asks w.acts x.led z z.purpose) w.sent i d x.said e) (all_at (λ (z : Datagram). z.moment ≤ w.moment) w.sent i d h.past e)
 
 neither : (b c : Bool) → (b || c) ≡ false → (b ≡ false) × (c ≡ false)
@@ -100,18 +100,18 @@ exact_emitted w e x =
     exact_server w (with_emitted e.target w.server) (w.emitted ++ e ∷ []) refl refl refl refl x
     (x.ledger.served.0, server_emitted x.ledger.history w.server (with_emitted e.target w.server) e.target x.ledger.served.1 refl)
 
-pub exact_after : (capacity watchers : ℕ) (m : WorldMove) (w v : WorldState) → Plays m w v → Holds capacity w → Holds capacity v → length w.asks ≤ 65536 → Watched watchers w → Exact w → Exact v
-exact_after capacity watchers (ask a) w v plays h h_after few y x = exact_ask a w v plays x
-exact_after capacity watchers due w v plays h h_after few y x = exact_due w v plays x
-exact_after capacity watchers (deliver i) w v plays h h_after few y x = exact_deliver capacity watchers w v i (slice_get w.sent i) refl plays h h_after few y x
-exact_after capacity watchers (pass n) w v plays h h_after few y x = subst Exact (sym plays) (exact_later w n x)
-exact_after capacity watchers (elsewhere from bytes) w v plays h h_after few y x = exact_comes_elsewhere from bytes w v plays x
-exact_after capacity watchers (emit e) w v plays h h_after few y x = subst Exact (sym plays) (exact_emitted w e x)
-exact_after capacity watchers notify w v plays h h_after few y x = subst Exact (sym plays.next) (exact_noted capacity watchers w plays.after plays.notice h few y plays.sends x)
+pub exact_after : (capacity observers : ℕ) (m : WorldMove) (w v : WorldState) → Plays m w v → Holds capacity w → Holds capacity v → length w.asks ≤ 65536 → Watched observers w → Exact w → Exact v
+exact_after capacity observers (ask a) w v plays h h_after few y x = exact_ask a w v plays x
+exact_after capacity observers due w v plays h h_after few y x = exact_due w v plays x
+exact_after capacity observers (deliver i) w v plays h h_after few y x = exact_deliver capacity observers w v i (slice_get w.sent i) refl plays h h_after few y x
+exact_after capacity observers (pass n) w v plays h h_after few y x = subst Exact (sym plays) (exact_later w n x)
+exact_after capacity observers (elsewhere from bytes) w v plays h h_after few y x = exact_comes_elsewhere from bytes w v plays x
+exact_after capacity observers (emit e) w v plays h h_after few y x = subst Exact (sym plays) (exact_emitted w e x)
+exact_after capacity observers notify w v plays h h_after few y x = subst Exact (sym plays.next) (exact_noted capacity observers w plays.after plays.notice h few y plays.sends x)
 
-pub exact_at_start : (first_id exchanges watchers : ℕ) (w : WorldState) → IsStart first_id exchanges watchers w → Exact w
-exact_at_start first_id exchanges watchers w s =
-    let h = holds_at_start first_id exchanges watchers w s in
+pub exact_at_start : (first_id exchanges observers : ℕ) (w : WorldState) → IsStart first_id exchanges observers w → Exact w
+exact_at_start first_id exchanges observers w s =
+    let h = holds_at_start first_id exchanges observers w s in
     record {
       led = [];
       ledger = record {

@@ -18,13 +18,13 @@ use Rattle.coap_client.specs.Answers.{sequence_of, block2_of as block_said}
 use Rattle.coap_blocks.specs.Bodies.{Content}
 use Rattle.coap_blocks.specs.declared.added.Added.{Added}
 use Rattle.coap_blocks.specs.declared.added.Added.TheVariants as answer
-use Rattle.coap_opts.specs.Reading.{PlainAsk, asked as what_is_asked}
+use Rattle.coap_opts.specs.Reading.{AskSeen, asked as what_is_asked}
 use Rattle.coap_bind.specs.declared.blocks.BlockOption.{BlockOption}
 use Rattle.coap_bind.specs.declared.blocks.BlockOption.TheVariants as option
 use Rattle.coap_bind.specs.declared.blocks.BlockUse.{BlockUse}
 use Rattle.coap_bind.specs.declared.blocks.BlockUse.TheVariants as blocks
-use Rattle.coap_bind.specs.declared.blocks.Wanted.{Wanted}
-use Rattle.coap_bind.specs.declared.blocks.Wanted.TheVariants as wanted
+use Rattle.coap_bind.specs.declared.blocks.BlockWish.{BlockWish}
+use Rattle.coap_bind.specs.declared.blocks.BlockWish.TheVariants as wanted
 use Rattle.coap_bind.specs.declared.observing.Observing.{Observing}
 use Rattle.coap_bind.specs.declared.observing.Observing.TheVariants as observing
 use Rattle.coap_bind.specs.Blocks.{block2_of, wanted_by_get, wanted_by_body, use_of, with_block, content_format, content_reply, portion_at, later_reply, block_reply, continue_reply, added_reply, answer_reply}
@@ -57,7 +57,7 @@ later_at (Some y) b e = by_test (y.number == 0) refl e
     by_test true h e' = absurd cc
     by_test false h e' = let same : y ≡ b = cc in (ap (λ (z : Block). Some z) same, subst (λ (z : Block). z.number ≢ 0) same (not_zero y.number h))
 
-some_block2 : (x : Observing) (a : PlainAsk) (b : Block) → block2_of x a ≡ Some b → a.block2 ≡ Some b
+some_block2 : (x : Observing) (a : AskSeen) (b : Block) → block2_of x a ≡ Some b → a.block2 ≡ Some b
 some_block2 observing.Registers a b e = absurd cc
 some_block2 observing.Unchanged a b e = e
 some_block2 observing.Deregisters a b e = e
@@ -106,13 +106,13 @@ wants_joining m b e = by_tests (m.code == GET) (m.code == POST || m.code == PUT)
 abbrev pub verb_if : Bool → Bool → Bool → Bool → Verb
 verb_if get post put delete = if get then verb.Get else if post then verb.Post else if put then verb.Put else if delete then verb.Delete else verb.Other
 
-abbrev pub observing_if : Bool → PlainAsk → Observing
+abbrev pub observing_if : Bool → AskSeen → Observing
 observing_if get a = if get then observing_at a.observe else observing.Unchanged
 
-abbrev pub wanted_if : Bool → Bool → Bool → PlainAsk → Wanted
+abbrev pub wanted_if : Bool → Bool → Bool → AskSeen → BlockWish
 wanted_if get post put a = if get then wanted_by_get (block2_of (observing_if get a) a) else if post || put then wanted_by_body a.block1 else wanted.Act
 
-abbrev pub use_if : Bool → ℕ → PlainAsk → BlockUse
+abbrev pub use_if : Bool → ℕ → AskSeen → BlockUse
 use_if get now a =
     if get then blocks.Gives (record { path = a.request.path; szx = option_map (λ (b : Block). b.szx) (block2_of (observing_if get a) a); moment = now }) else blocks.Whole
 
@@ -120,7 +120,7 @@ pub not_joined : (x : Option Block) → wanted_by_body x ≡ wanted.Act → bloc
 not_joined None e = refl
 not_joined (Some b) e = absurd cc
 
-said_if : (get post put delete : Bool) (now : ℕ) (a : PlainAsk) (o : Outcome) → wanted_if get post put a ≡ wanted.Act
+said_if : (get post put delete : Bool) (now : ℕ) (a : AskSeen) (o : Outcome) → wanted_if get post put a ≡ wanted.Act
     → answer_reply (use_if get now a) o ≡ answer_reply (blocks_by (verb_if get post put delete) a) o
 said_if true post put delete now a o wants = refl
 said_if false true put delete now a o wants = ap (λ (u : BlockUse). answer_reply u o) (sym (not_joined a.block1 wants))
@@ -132,7 +132,7 @@ pub said_as_asked : (now : ℕ) (m : CoapMessage) (o : Outcome) → wanted_in m 
     → answer_reply (use_of now m.code (observing_in m) (what_is_asked m)) o ≡ answer_reply (blocks_for (what_is_asked m)) o
 said_as_asked now m o wants = said_if (m.code == GET) (m.code == POST) (m.code == PUT) (m.code == DELETE) now (what_is_asked m) o wants
 
-joined_if : (get post put delete : Bool) (a : PlainAsk) (body : List ℕ) (b : Block) → wanted_if get post put a ≡ wanted.Joining b → blocks_by (verb_if get post put delete) (with_whole_body body a) ≡ blocks.Joined b
+joined_if : (get post put delete : Bool) (a : AskSeen) (body : List ℕ) (b : Block) → wanted_if get post put a ≡ wanted.Joining b → blocks_by (verb_if get post put delete) (with_whole_body body a) ≡ blocks.Joined b
 joined_if true post put delete a body b wants = absurd (get_at (block2_of (observing_at a.observe) a) b wants)
 joined_if false true put delete a body b wants = ap blocks_joined (body_at a.block1 b wants)
 joined_if false false true delete a body b wants = ap blocks_joined (body_at a.block1 b wants)

@@ -26,13 +26,13 @@ use Rattle.coap_client.proofs.RequestLaws.{last_is_outstanding, ids_differ}
 use Rattle.coap_client.proofs.RegistrationLaws.{registration_is_observed}
 use Rattle.coap_bind.specs.Server.{is_request}
 use Rattle.coap_bind.specs.Writing.{Reply, reply_options, notification}
-use Rattle.servient_world.specs.World.{client_place, server_place, Purpose, copy_of, reply_to, notice_for, other, Datagram, Act, answered, observed, reset, AskEnd, Value, WorldState, latest, with_sent, end_by, taken_by}
+use Rattle.servient_world.specs.World.{client_place, server_place, Purpose, copy_of, reply_to, notification_for, other, Datagram, Act, answered, observed, reset, AskEnd, Value, WorldState, latest, with_sent, end_by, taken_by}
 use Rattle.servient_world.proofs.Places.{at_end}
 use Rattle.servient_world.proofs.Holds.{Holds}
 use Rattle.servient_world.proofs.Ledger.{Entry, IsEntry, entry_reply}
 use Rattle.servient_world.proofs.LedgerLaws.{ledger_asked, first_more_ends}
-use Rattle.servient_world.proofs.Exact.{Exact, IsWhy, IsSaid, IsSentBack, IsNotice, IsEnd, kept_asked, said_asked, same_ask}
-use Rattle.servient_world.proofs.MeaningLaws.{taken_id, answer_taken, value_taken, no_value_unless, no_value_without, notice_number, notice_no_answer, for_request_else, request_token, observation_token, for_both, latest_or_observed, ended_registration}
+use Rattle.servient_world.proofs.Exact.{Exact, IsWhy, IsSaid, IsSentBack, IsNotification, IsEnd, kept_asked, said_asked, same_ask}
+use Rattle.servient_world.proofs.MeaningLaws.{taken_id, answer_taken, value_taken, no_value_unless, no_value_without, notification_number, notification_no_answer, for_request_else, request_token, observation_token, for_both, latest_or_observed, ended_registration}
 
 -- ---- places
 
@@ -131,10 +131,10 @@ latest_ends None after k what = All-nil (λ (e : AskEnd). e.ask ≡ k)
 
 -- a datagram that comes to the client is a reply to an ask, or a notification
 pub for_client : (w : WorldState) (led : List Entry) (d : Datagram) (p : Purpose) → IsSaid w.asks w.acts led d p → d.to ≡ client_place
-    → (k : ℕ) × (IsSentBack w.asks led k d ⊎ ((q : ℕ) × IsNotice w.asks w.acts k q d))
+    → (k : ℕ) × (IsSentBack w.asks led k d ⊎ ((q : ℕ) × IsNotification w.asks w.acts k q d))
 for_client w led d (copy_of k) is to = absurd (is to)
 for_client w led d (reply_to k) is to = (k, inl is)
-for_client w led d (notice_for k q e) is to = (k, inr (q, is))
+for_client w led d (notification_for k q e) is to = (k, inr (q, is))
 for_client w led d other is to = absurd (is.0 to)
 
 -- the act of a reply with Observe
@@ -232,7 +232,7 @@ never_answers : (w : WorldState) (o : Outstanding) (from : Endpoint) (m : CoapMe
     → w.client.outstanding ≡ Some o → slice_get w.asks k ≡ Some request → request.registers ≡ true → m.token ≡ request.token
     → ((c : Bool) → is_for_observation w.client.observation from m.token ≡ c → notified (at_moment w.moment w.client) from m ≡ cond c (Some q) None)
     → meaning (at_moment w.moment w.client) from m ≡ meant.Response → (b : Bool) → is_for_observation w.client.observation from m.token ≡ b → ⊥
-never_answers w o from m k request q did few o_is at registers_it token number e true is = notice_no_answer (at_moment w.moment w.client) from m q (number true is) e
+never_answers w o from m k request q did few o_is at registers_it token number e true is = notification_no_answer (at_moment w.moment w.client) from m q (number true is) e
 never_answers w o from m k request q did few o_is at registers_it token number e false is =
     let taken = answer_taken (at_moment w.moment w.client) from m e in
     let asked_for : is_for_request (Some o) from m.token ≡ true
@@ -253,7 +253,7 @@ is_observed s from m q number v e true is = refl
 is_observed s from m q number v e false is = absurd (no_value_unless s from m v (number false is) e)
 
 pub exact_noticed : (capacity : ℕ) (d : Datagram) (w : WorldState) (told : Delivered) (old new : List ℕ) (t : State) → Holds capacity w → length w.asks ≤ 65536 → (x : Exact w)
-    → (k q : ℕ) → IsNotice w.asks w.acts k q d → Delivers (at_moment w.moment w.client) d.from d.bytes told old new t
+    → (k q : ℕ) → IsNotification w.asks w.acts k q d → Delivers (at_moment w.moment w.client) d.from d.bytes told old new t
     → Exact (with_sent (record w { client = t; ends = w.ends ++ end_by w.client.outstanding t.outstanding (latest w) told.news; taken = w.taken ++ taken_by d.purpose told.news })
     client_place d.from other (option_to_list (option_map (λ n. take n new) told.reply)))
 exact_noticed capacity d w told old new t h few x k q n_of (of_message m spells reply news_is after_is) =
@@ -263,7 +263,7 @@ exact_noticed capacity d w told old new t h few x k q n_of (of_message m spells 
     let token : m.token ≡ n_of.request.token = ap (λ (y : CoapMessage). y.token) one ∙ n_of.token in
     let number : (b : Bool) → is_for_observation w.client.observation d.from m.token ≡ b → notified (at_moment w.moment w.client) d.from m ≡ cond b (Some q) None = λ b is.
     ap (notified (at_moment w.moment w.client) d.from) one
-    ∙ (notice_number (at_moment w.moment w.client) d.from n_of.notice n_of.value b
+    ∙ (notification_number (at_moment w.moment w.client) d.from n_of.notice n_of.value b
     (ap (λ (y : CoapMessage). is_for_observation w.client.observation d.from y.token) (sym one) ∙ is) n_of.low
     ∙ ap (λ (y : ℕ). cond b (Some y) None) n_of.number)
     in

@@ -9,7 +9,7 @@ use Rattle.coap_observe.specs.declared.notice.Notice.{Notice}
 use Rattle.coap_opts.specs.Reading.{asked as what_is_asked}
 use Rattle.coap_bind.specs.declared.server.Server.{Server}
 use Rattle.coap_bind.specs.Writing.{Reply, ReplyHead, head_of, head_in}
-use Rattle.coap_bind.specs.Server.{Heard, with_next_id, with_id_used, with_kept, with_watchers, with_notice_sent, Replies, SendsNext, malformed, no_request, duplicate, full, with_parts, replied, bad_option_ignored, gives_links, links_given, observing_in, asks, asks_whole, Reads, settled, admitted, Hears}
+use Rattle.coap_bind.specs.Server.{Heard, with_next_id, with_id_used, with_kept, with_observers, with_notification_sent, Replies, SendsNext, malformed, no_request, duplicate, full, with_parts, replied, bad_option_ignored, gives_links, links_given, observing_in, asks, asks_whole, Reads, settled, admitted, Hears}
 use Rattle.coap_bind.specs.Treating.{Acted, Treats, ignores, answers, acts}
 use Rattle.coap_bind.proofs.DuplicateLaws.{ready}
 use Rattle.servient_world.specs.World.{Receives, too_long, treated}
@@ -53,7 +53,7 @@ counter_treats from bytes now act back s t (ignores hears none nothing) h = coun
 counter_treats from bytes now act back s t (answers reply hears none one) h = counter_hears from bytes now _ s t hears h
 counter_treats from bytes now act back s t (acts a ask reply u hears code place answer is one) h =
     let heard_it = counter_hears from bytes now _ s u hears h in
-    counter_replies _ (head_in ask) ask.slot reply (ready ask a.outcome answer.watchers u) t answer.replies heard_it
+    counter_replies _ (head_in ask) ask.slot reply (ready ask a.outcome answer.observers u) t answer.replies heard_it
 
 pub counter_receives : (from : Endpoint) (bytes : List ℕ) (now : ℕ) (act : Option Acted) (back : List (List ℕ)) (s t : Server) → Receives from bytes now act back s t
     → s.next_id < 2 ^ 16 → t.next_id < 2 ^ 16
@@ -64,9 +64,9 @@ counter_fresh : (s : Server) (b : Bool) → IsCounter s → (cond b (with_next_i
 counter_fresh s true h = omega arith
 counter_fresh s false h = h
 
-counter_noticed : (n : Option Notice) (s : Server) → IsCounter s → IsCounter (with_notice_sent n s)
+counter_noticed : (n : Option Notice) (s : Server) → IsCounter s → IsCounter (with_notification_sent n s)
 counter_noticed None s h = h
 counter_noticed (Some n) s h = counter_fresh s n.fresh h
 
 pub counter_sends : (now : ℕ) (n : Option Notice) (s t : Server) → SendsNext now n s t → s.next_id < 2 ^ 16 → t.next_id < 2 ^ 16
-counter_sends now n s t sends h = subst IsCounter (sym sends.after) (counter_noticed n (with_watchers sends.watchers s) h)
+counter_sends now n s t sends h = subst IsCounter (sym sends.after) (counter_noticed n (with_observers sends.observers s) h)

@@ -9,7 +9,7 @@ use Rattle.coap_client.specs.Answers.{block2_of}
 use Rattle.coap_client.specs.Exchange.{at_moment, request_for}
 use Rattle.coap_observe.specs.declared.notice.Notice.{Notice}
 use Rattle.coap_bind.specs.Writing.{Reply, reply_options}
-use Rattle.servient_world.specs.World.{server_place, Datagram, answered, observed, AskEnd, WorldState, IsStart, WorldMove, ask, due, deliver, pass, elsewhere, emit, notify, ClientAsks, sends_ask, refuses_ask, skips_ask, ClientDoesDue, retransmits, gives_up, waits, with_notice, too_late, to_client, to_server, ComesIfSent, ComesElsewhere, comes_elsewhere, skips_end, Plays, PlaysAll}
+use Rattle.servient_world.specs.World.{server_place, Datagram, answered, observed, AskEnd, WorldState, IsStart, WorldMove, ask, due, deliver, pass, elsewhere, emit, notify, ClientAsks, sends_ask, refuses_ask, skips_ask, ClientDoesDue, retransmits, gives_up, waits, with_notification, too_late, to_client, to_server, ComesIfSent, ComesElsewhere, comes_elsewhere, skips_end, Plays, PlaysAll}
 use Rattle.servient_world.specs.Laws.{said_of, AsksLinks, AsksOfBlocks, IsExcuse, IsAnsweredBy, AnsweredOnce, ObservedOnce}
 use Rattle.servient_world.proofs.BlockReplies.{observed_block}
 use Rattle.servient_world.proofs.Ledger.{Entry, IsEntry, entry_reply}
@@ -56,7 +56,7 @@ grow_elsewhere : (from : _) (bytes : List ℕ) (w v : WorldState) → ComesElsew
 grow_elsewhere from bytes w v (comes_elsewhere no_end s) = grows w v _ s.next (omega arith) (omega arith)
 grow_elsewhere from bytes w v (skips_end is_one is) = grows w v w is (omega arith) (omega arith)
 
-grow_noticed : (w u v : WorldState) (o : Option Notice) → u.asks ≡ w.asks → u.ids ≡ w.ids → v ≡ with_notice o u → Grows w v
+grow_noticed : (w u v : WorldState) (o : Option Notice) → u.asks ≡ w.asks → u.ids ≡ w.ids → v ≡ with_notification o u → Grows w v
 grow_noticed w u v None asks ids is = grows w v u is (let e = ap length asks in omega arith) (omega arith)
 grow_noticed w u v (Some n) asks ids is = grows w v _ is (let e = ap length asks in omega arith) (omega arith)
 
@@ -83,39 +83,39 @@ all_grow (m ∷ moves) w v plays =
 -- ---- all that holds
 
 -- of a world with at most 65,536 asks
-pub record Stands (exchanges watchers : ℕ) (w : WorldState) : Type 0 where
+pub record Stands (exchanges observers : ℕ) (w : WorldState) : Type 0 where
   pub holds : Holds exchanges w
   pub exact : Exact w
-  pub watched : Watched watchers w
+  pub watched : Watched observers w
 
-pub stands_after : (exchanges watchers : ℕ) (m : WorldMove) (w v : WorldState) → Plays m w v → length w.asks ≤ 65536 → Stands exchanges watchers w → Stands exchanges watchers v
-stands_after exchanges watchers m w v plays few s =
+pub stands_after : (exchanges observers : ℕ) (m : WorldMove) (w v : WorldState) → Plays m w v → length w.asks ≤ 65536 → Stands exchanges observers w → Stands exchanges observers v
+stands_after exchanges observers m w v plays few s =
     let after = holds_after exchanges m w v plays s.holds in
     record {
       holds = after;
-      exact = exact_after exchanges watchers m w v plays s.holds after few s.watched s.exact;
-      watched = watched_after exchanges watchers m w v plays s.holds after few s.exact s.watched;
+      exact = exact_after exchanges observers m w v plays s.holds after few s.watched s.exact;
+      watched = watched_after exchanges observers m w v plays s.holds after few s.exact s.watched;
     }
 
-pub stands_at_start : (first_id exchanges watchers : ℕ) (w : WorldState) → IsStart first_id exchanges watchers w → Stands exchanges watchers w
-stands_at_start first_id exchanges watchers w start = record {
-  holds = holds_at_start first_id exchanges watchers w start;
-  exact = exact_at_start first_id exchanges watchers w start;
-  watched = watched_at_start first_id exchanges watchers w start;
+pub stands_at_start : (first_id exchanges observers : ℕ) (w : WorldState) → IsStart first_id exchanges observers w → Stands exchanges observers w
+stands_at_start first_id exchanges observers w start = record {
+  holds = holds_at_start first_id exchanges observers w start;
+  exact = exact_at_start first_id exchanges observers w start;
+  watched = watched_at_start first_id exchanges observers w start;
 }
 
-pub stands_after_all : (exchanges watchers : ℕ) (moves : List WorldMove) (w v : WorldState) → PlaysAll moves w v → length v.asks ≤ 65536 → Stands exchanges watchers w → Stands exchanges watchers v
-stands_after_all exchanges watchers [] w v plays few s = subst (Stands exchanges watchers) (sym plays) s
-stands_after_all exchanges watchers (m ∷ moves) w v plays few s =
+pub stands_after_all : (exchanges observers : ℕ) (moves : List WorldMove) (w v : WorldState) → PlaysAll moves w v → length v.asks ≤ 65536 → Stands exchanges observers w → Stands exchanges observers v
+stands_after_all exchanges observers [] w v plays few s = subst (Stands exchanges observers) (sym plays) s
+stands_after_all exchanges observers (m ∷ moves) w v plays few s =
     let one = (grows_by m w plays.0 plays.1).asks in
     let more = (all_grow moves plays.0 v plays.2).asks in
-    stands_after_all exchanges watchers moves plays.0 v plays.2 few (stands_after exchanges watchers m w plays.0 plays.1 (omega arith) s)
+    stands_after_all exchanges observers moves plays.0 v plays.2 few (stands_after exchanges observers m w plays.0 plays.1 (omega arith) s)
 
 -- ---- the ends of asks
 
 pub observed_once : ObservedOnce
-observed_once first_id exchanges watchers moves w v k start plays few has =
-    let s = stands_after_all exchanges watchers moves w v plays few (stands_at_start first_id exchanges watchers w start) in
+observed_once first_id exchanges observers moves w v k start plays few has =
+    let s = stands_after_all exchanges observers moves w v plays few (stands_at_start first_id exchanges observers w start) in
     All-contains (λ (e : AskEnd). IsEnd v.acts s.exact.led e.ask e.end) v.ends (record { ask = k; end = observed }) s.exact.ended has
 
 -- the answer to an ask that was admitted
@@ -139,8 +139,8 @@ answered_by v x k code block payload r e has same reply code_is block_is payload
     ]
 
 pub answered_once : AnsweredOnce
-answered_once first_id exchanges watchers moves w v k code block payload start plays few no_links no_blocks has =
-    let s = stands_after_all exchanges watchers moves w v plays few (stands_at_start first_id exchanges watchers w start) in
+answered_once first_id exchanges observers moves w v k code block payload start plays few no_links no_blocks has =
+    let s = stands_after_all exchanges observers moves w v plays few (stands_at_start first_id exchanges observers w start) in
     let is = All-contains (λ (e : AskEnd). IsEnd v.acts s.exact.led e.ask e.end) v.ends (record { ask = k; end = answered code block payload }) s.exact.ended has in
     elim is.1 [
       | inl full ↦ inl (is.2 ∙ ap (λ (r : Reply). r.code) full, inl (is.4 ∙ ap (λ (r : Reply). r.payload) full))

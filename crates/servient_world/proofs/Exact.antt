@@ -16,7 +16,7 @@ use Rattle.coap_observe.specs.declared.notice.Notice.{Notice}
 use Rattle.coap_observe.specs.Accounts.{token_of}
 use Rattle.coap_bind.specs.Writing.{Reply, full_reply, reply_options, notification}
 use Rattle.coap_bind.specs.Server.{is_request}
-use Rattle.servient_world.specs.World.{client_place, server_place, Purpose, copy_of, reply_to, notice_for, other, Datagram, Act, End, answered, observed, reset, timed_out, AskEnd, WorldState}
+use Rattle.servient_world.specs.World.{client_place, server_place, Purpose, copy_of, reply_to, notification_for, other, Datagram, Act, End, answered, observed, reset, timed_out, AskEnd, WorldState}
 use Rattle.servient_world.proofs.Places.{at_more}
 use Rattle.servient_world.proofs.Ledger.{Entry, ComesFirst, AreFed, Ledger}
 use Rattle.servient_world.proofs.Given.{Given}
@@ -64,7 +64,7 @@ pub record IsSentBack (asks : List Outstanding) (led : List Entry) (k : ℕ) (d 
   pub reply : IsReply asks led k d.bytes
 
 -- a notification of the target for which an ask registered, for which an act was made
-pub record IsNotice (asks : List Outstanding) (acts : List Act) (k sequence : ℕ) (d : Datagram) : Type 0 where
+pub record IsNotification (asks : List Outstanding) (acts : List Act) (k sequence : ℕ) (d : Datagram) : Type 0 where
   pub from : d.from ≡ server_place
   pub to : d.to ≡ client_place
   pub request : Outstanding
@@ -91,7 +91,7 @@ pub record IsEmpty (d : Datagram) : Type 0 where
 abbrev pub IsSaid : List Outstanding → List Act → List Entry → Datagram → Purpose → Type 0
 IsSaid asks acts led d (copy_of k) = (d.to ≡ client_place) → ⊥
 IsSaid asks acts led d (reply_to k) = IsSentBack asks led k d
-IsSaid asks acts led d (notice_for k q e) = IsNotice asks acts k q d
+IsSaid asks acts led d (notification_for k q e) = IsNotification asks acts k q d
 IsSaid asks acts led d other = ((d.to ≡ client_place) → ⊥) × (((d.to ≡ server_place) → ⊥) ⊎ IsEmpty d)
 
 -- the answer that ended an ask is a reply to it
@@ -150,7 +150,7 @@ said_more : (asks other_asks : List Outstanding) (acts more : List Act) (led lat
     → IsSaid (asks ++ other_asks) (acts ++ more) (led ++ later) d p
 said_more asks other_asks acts more led later d (copy_of k) is = is
 said_more asks other_asks acts more led later d (reply_to k) is = record { from = is.from; to = is.to; reply = reply_more asks other_asks led later k d.bytes is.reply }
-said_more asks other_asks acts more led later d (notice_for k q e) is = record {
+said_more asks other_asks acts more led later d (notification_for k q e) is = record {
   from = is.from;
   to = is.to;
   request = is.request;

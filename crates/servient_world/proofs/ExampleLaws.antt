@@ -20,7 +20,7 @@ use Rattle.coap_client.specs.Exchange.{IsNew, at_moment, Asks, request_for, with
 use Rattle.coap_bind.specs.declared.server.Server.{Server}
 use Rattle.coap_bind.specs.Observing.{registers}
 use Rattle.coap_bind.specs.Writing.{Reply, reply_of, observed as observed_reply, coap_reply}
-use Rattle.coap_bind.specs.Server.{start as nothing_came, arrival, asked, asks, pending_of, Hears, admitted, with_kept, with_id_used, with_watchers, Answers}
+use Rattle.coap_bind.specs.Server.{start as nothing_came, arrival, asked, asks, pending_of, Hears, admitted, with_kept, with_id_used, with_observers, Answers}
 use Rattle.coap_bind.specs.Treating.{Acted, Treats, acts}
 use Rattle.servient_world.specs.World.{client_place, server_place, copy_of, reply_to, other, WorldState, IsStart, latest, end_by, taken_by, with_sent, ClientAsks, sends_ask, treated, Comes, to_client, to_server, PlaysAll}
 use Rattle.servient_world.specs.Examples.{world_of, observe_root, ask_that_comes, ask_and_reply, SomeoneActs, SomeoneTakesAValue}
@@ -129,13 +129,13 @@ abbrev first_table : Table
 first_table = later 0 (nothing_came 16 16).exchanges
 
 abbrev admitting : Server
-admitting = record { exchanges = with_exchange (arrival client_place 0 question) 0 first_table; watchers = (nothing_came 16 16).watchers; next_id = 0; bodies = []; parts = []; links = [] }
+admitting = record { exchanges = with_exchange (arrival client_place 0 question) 0 first_table; observers = (nothing_came 16 16).observers; next_id = 0; bodies = []; parts = []; links = [] }
 
 abbrev watching : Watching
 watching = record { capacity = 16; list = newcomer client_place first_token 0 ∷ [] }
 
 abbrev answered_server : Server
-answered_server = with_kept Confirmable 0 answer_bytes (with_id_used Confirmable (with_watchers watching admitting))
+answered_server = with_kept Confirmable 0 answer_bytes (with_id_used Confirmable (with_observers watching admitting))
 
 abbrev answered_world : List (Option ℕ) → WorldState
 answered_world uses =
@@ -147,7 +147,7 @@ hears_it = admitted question 0 admitting (record {
   spells = question_spells;
   request = refl;
   meets = (refl, (omega arith, refl, refl));
-  same_watchers = refl;
+  same_observers = refl;
   same_id = refl;
   same_bodies = refl;
   same_parts = refl;
@@ -157,7 +157,7 @@ hears_it = admitted question 0 admitting (record {
 answers_it : Answers (pending_of client_place 0 question 0) outcome.Empty (Some 0) answer_bytes admitting answered_server
 answers_it = record {
   observe = Some 0;
-  watchers = watching;
+  observers = watching;
   watches = registers 0 (New 0) refl (refl, omega arith, refl, refl) refl;
   replies = record { bytes_are = refl; after = refl };
 }

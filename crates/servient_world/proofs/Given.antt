@@ -10,12 +10,12 @@ use Rattle.coap_msg.specs.Grammar.{CoapMessage}
 use Rattle.coap_blocks.specs.Bodies.{Body, Content, is_body_of, with_body, body_for, kept_bodies}
 use Rattle.coap_blocks.specs.Paths.{is_same_path}
 use Rattle.coap_blocks.proofs.BodyLaws.{bodies_follow_the_puts, the_last_body_is_got, own_is}
-use Rattle.coap_opts.specs.Reading.{PlainAsk, asked as what_is_asked}
+use Rattle.coap_opts.specs.Reading.{AskSeen, asked as what_is_asked}
 use Rattle.thing_ops.specs.declared.outcome.Outcome.{Outcome}
 use Rattle.coap_bind.specs.declared.server.Server.{Server}
 use Rattle.coap_bind.specs.declared.blocks.BlockUse.{BlockUse}
 use Rattle.coap_bind.specs.declared.blocks.BlockUse.TheVariants as blocks
-use Rattle.coap_bind.specs.declared.blocks.Wanted.TheVariants as wanted
+use Rattle.coap_bind.specs.declared.blocks.BlockWish.TheVariants as wanted
 use Rattle.coap_bind.specs.Blocks.{use_of, outcome_content, body_of, is_kept, bodies_after}
 use Rattle.coap_bind.specs.Links.{is_links_path, links_content, size_asked, is_text_kept}
 use Rattle.coap_bind.specs.Server.{asks_links, observing_in, wanted_in}
@@ -201,7 +201,7 @@ act_put led s t x a path now szx apart links by false kept bodies g =
     never true before = refl
     never false before = refl
 
-act_entry : (get post put delete : Bool) (led : List Entry) (s t : Server) (x : Entry) (a : Acted) (what : PlainAsk) (now : ℕ) → wanted_if get post put what ≡ wanted.Act
+act_entry : (get post put delete : Bool) (led : List Entry) (s t : Server) (x : Entry) (a : Acted) (what : AskSeen) (now : ℕ) → wanted_if get post put what ≡ wanted.Act
     → is_links_path what.request.path ≡ false → t.links ≡ s.links → x.led ≡ to_act a → a.what.request.path ≡ what.request.path → blocks_for a.what ≡ blocks_by (verb_if get post put delete) what
     → t.bodies ≡ bodies_after (use_if get now what) client_place a.outcome s.bodies → Given led s → Given (led ++ x ∷ []) t
 act_entry true post put delete led s t x a what now wants apart links is_it path by bodies g =
@@ -256,7 +256,7 @@ given_admits led now m seen x s t leads leaves links g = by_led x.led refl leave
     by_led (to_act a) is it =
         let on = acted_on client_place now m s.links seen x.led x.reply a leads is in
         act_entry (m.code == GET) (m.code == POST) (m.code == PUT) (m.code == DELETE) led s t x a (what_is_asked m) now on.wants on.apart links is
-        (ap (λ (w : PlainAsk). w.request.path) on.what) (ap blocks_for on.what) it.0 g
+        (ap (λ (w : AskSeen). w.request.path) on.what) (ap blocks_for on.what) it.0 g
     by_led (to_act_on_whole b a) is it = plain_entry led s t x (none (to_act_on_whole b a) is (λ path before. refl)) it.0.bodies links g
 
 -- the body that is found for a later block is the one that the entries before gave

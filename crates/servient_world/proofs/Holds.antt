@@ -25,7 +25,7 @@ use Rattle.coap_bind.proofs.DuplicateLaws.{ready}
 use Rattle.coap_bind.proofs.MomentLaws.{replies_moment}
 use Rattle.coap_bind.proofs.ArrivalLaws.{hearing_goes_on, asked_is_admitted}
 use Rattle.servient_world.specs.declared.network.TheConstants.{MAX_LATENCY}
-use Rattle.servient_world.specs.World.{client_place, server_place, Purpose, copy_of, reply_to, notice_for, other, Datagram, Act, WorldState, Receives, too_long, treated, acts_for, purpose_back, may_come}
+use Rattle.servient_world.specs.World.{client_place, server_place, Purpose, copy_of, reply_to, notification_for, other, Datagram, Act, WorldState, Receives, too_long, treated, acts_for, purpose_back, may_come}
 use Rattle.servient_world.proofs.Places.{all_at, at_more, at_same}
 use Rattle.servient_world.proofs.AskLaws.{HasMessage}
 
@@ -45,7 +45,7 @@ pub record IsCopy (asks : List Outstanding) (d : Datagram) (k : ℕ) : Type 0 wh
 abbrev pub IsSentFor : List Outstanding → Datagram → Purpose → Type 0
 IsSentFor asks d (copy_of k) = IsCopy asks d k
 IsSentFor asks d (reply_to k) = Unit {0}
-IsSentFor asks d (notice_for k q e) = Unit {0}
+IsSentFor asks d (notification_for k q e) = Unit {0}
 IsSentFor asks d other = Unit {0}
 
 -- a copy of an ask was admitted, not before it was first sent
@@ -114,7 +114,7 @@ copy_more asks more d k c = record {
 pub sent_for_more : (asks more : List Outstanding) (d : Datagram) (p : Purpose) → IsSentFor asks d p → IsSentFor (asks ++ more) d p
 sent_for_more asks more d (copy_of k) is = copy_more asks more d k is
 sent_for_more asks more d (reply_to k) is = tt
-sent_for_more asks more d (notice_for k q e) is = tt
+sent_for_more asks more d (notification_for k q e) is = tt
 sent_for_more asks more d other is = tt
 
 pub admitted_more : (capacity : ℕ) (history : List Arrival) (asks more : List Outstanding) (k : ℕ) → IsAdmitted capacity history asks k → IsAdmitted capacity history (asks ++ more) k
@@ -146,7 +146,7 @@ admitted_later capacity history more asks k c = record {
 pub back : (asks : List Outstanding) (d : Datagram) (p : Purpose) → IsSentFor asks d (purpose_back p)
 back asks d (copy_of k) = tt
 back asks d (reply_to k) = tt
-back asks d (notice_for k q e) = tt
+back asks d (notification_for k q e) = tt
 back asks d other = tt
 
 -- ---- the server
@@ -176,7 +176,7 @@ without_act capacity w p act t more h did moment none =
 pub no_acts : (p : Purpose) (act : Option Acted) → act ≡ None → acts_for p act ≡ []
 no_acts (copy_of k) act e = ap (acts_for (copy_of k)) e
 no_acts (reply_to k) act e = refl
-no_acts (notice_for k q f) act e = refl
+no_acts (notification_for k q f) act e = refl
 no_acts other act e = refl
 
 same_table : (capacity : ℕ) (history : List Arrival) (s t : Server) → t ≡ s → ServerDid capacity history s → ServerDid capacity (history ++ []) t
@@ -190,7 +190,7 @@ answered_did capacity history s u t from bytes now a ask reply hears did answer 
     (did.0, server_answered history u t ask a.outcome a.target reply did.1 (asks_are_open from bytes now a.what ask s u hears) answer)
 
 pub answered_moment : (ask : PendingReply) (a : Acted) (reply : List ℕ) (u t : Server) → Answers ask a.outcome a.target reply u t → t.exchanges.moment ≡ u.exchanges.moment
-answered_moment ask a reply u t answer = replies_moment _ (head_in ask) ask.slot reply (ready ask a.outcome answer.watchers u) t answer.replies
+answered_moment ask a reply u t answer = replies_moment _ (head_in ask) ask.slot reply (ready ask a.outcome answer.observers u) t answer.replies
 
 -- tests
 pub is_below : (m n : ℕ) → m < n → nat_lt m n ≡ true
@@ -288,8 +288,8 @@ serves_treated capacity w d (copy_of k) act back t h for past soon (acts a ask r
     with_act capacity w d k act t u a ask reply h for past soon hears answer is
 serves_treated capacity w d (reply_to k) act back t h for past soon (acts a ask reply u hears code place answer is one_back) =
     with_other capacity w d (reply_to k) act t u a ask reply h hears answer refl
-serves_treated capacity w d (notice_for k q e) act back t h for past soon (acts a ask reply u hears code place answer is one_back) =
-    with_other capacity w d (notice_for k q e) act t u a ask reply h hears answer refl
+serves_treated capacity w d (notification_for k q e) act back t h for past soon (acts a ask reply u hears code place answer is one_back) =
+    with_other capacity w d (notification_for k q e) act t u a ask reply h hears answer refl
 serves_treated capacity w d other act back t h for past soon (acts a ask reply u hears code place answer is one_back) =
     with_other capacity w d other act t u a ask reply h hears answer refl
 

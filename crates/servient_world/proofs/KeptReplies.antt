@@ -23,7 +23,7 @@ use Rattle.coap_opts.specs.Reading.{faults_of, asked as what_is_asked}
 use Rattle.coap_client.specs.declared.outstanding.Outstanding.{Outstanding}
 use Rattle.coap_client.specs.Answers.{sequence_of}
 use Rattle.coap_observe.specs.declared.notice.Registered.TheVariants.{New, Replaced, Full}
-use Rattle.coap_observe.specs.declared.watcher.Watcher.{Watcher}
+use Rattle.coap_observe.specs.declared.observer.Observer.{Observer}
 use Rattle.coap_observe.specs.Watching.{Watching, is_pair, next_sequence}
 use Rattle.coap_bind.specs.declared.observing.Effect.{Effect}
 use Rattle.coap_bind.specs.declared.observing.Effect.TheVariants as effect
@@ -146,13 +146,13 @@ shows_said request u o (Some n) first q e =
     let same : n ≡ q = same_Some n q (sym (observed_says n (answer_reply u o) low) ∙ e) in
     (sym same ∙ is.0, is.1)
 
-replaced_there : (o : Option Watcher) (n : ℕ) → option_map (λ (w : Watcher). next_sequence w.sequence) o ≡ Some n → (w : Watcher) × (o ≡ Some w)
+replaced_there : (o : Option Observer) (n : ℕ) → option_map (λ (w : Observer). next_sequence w.sequence) o ≡ Some n → (w : Observer) × (o ≡ Some w)
 replaced_there None n e = absurd (cc)
 replaced_there (Some w) n e = (w, refl)
 
 shows_watched : (request : Outstanding) (from : Endpoint) (token : List ℕ) (does : Effect) (old new : Watching) (said : Option ℕ) → Watches does from token old said new
     → ((target : ℕ) → does ≡ effect.Registers target → request.registers ≡ true)
-    → ((w : Watcher) → find (is_pair from token) old.list ≡ Some w → request.registers ≡ true → ⊥) → (n : ℕ) → said ≡ Some n → (n ≡ 0) × (request.registers ≡ true)
+    → ((w : Observer) → find (is_pair from token) old.list ≡ Some w → request.registers ≡ true → ⊥) → (n : ℕ) → said ≡ Some n → (n ≡ 0) × (request.registers ≡ true)
 shows_watched request from token does old new said (leaves is none same) reg absent n e = absurd (let wrong : None ≡ Some n = sym none ∙ e in cc)
 shows_watched request from token does old new said (cancels is none same) reg absent n e = absurd (let wrong : None ≡ Some n = sym none ∙ e in cc)
 shows_watched request from token does old new said (registers target (New k) is r says) reg absent n e =
@@ -169,7 +169,7 @@ silent request r none q e = absurd (let wrong : None ≡ Some q = sym none ∙ e
 
 shows_acted : (request : Outstanding) (from : Endpoint) (m : CoapMessage) (a : Acted) (seen : Option ℕ) (u : BlockUse) (r : Reply) (old new : Watching) → IsAskOf request m
     → Watches (effect_of (observing_in m) a.outcome a.target) from m.token old seen new
-    → ((w : Watcher) → find (is_pair from m.token) old.list ≡ Some w → request.registers ≡ true → ⊥) → r ≡ observed_reply seen (answer_reply u a.outcome) → ShowsFirst request r
+    → ((w : Observer) → find (is_pair from m.token) old.list ≡ Some w → request.registers ≡ true → ⊥) → r ≡ observed_reply seen (answer_reply u a.outcome) → ShowsFirst request r
 shows_acted request from m a seen u r old new is watches absent same q e =
     shows_said request u a.outcome seen
     (shows_watched request from m.token (effect_of (observing_of m.code (what_is_asked m).observe) a.outcome a.target) old new seen watches
@@ -178,7 +178,7 @@ shows_acted request from m a seen u r old new is watches absent same q e =
 
 shows_by_led : (request : Outstanding) (from : Endpoint) (now : ℕ) (m : CoapMessage) (links : List ℕ) (seen : Option ℕ) (led : Led) (act : Option Acted) (r : Reply) (old new : Watching) → IsAskOf request m → act ≡ act_in led
     → ((a : Acted) → act ≡ Some a → Watches (effect_of (observing_in m) a.outcome a.target) from m.token old seen new)
-    → ((a : Acted) (w : Watcher) → act ≡ Some a → find (is_pair from m.token) old.list ≡ Some w → request.registers ≡ true → ⊥) → LeadsTo from now m links seen led r → ShowsFirst request r
+    → ((a : Acted) (w : Observer) → act ≡ Some a → find (is_pair from m.token) old.list ≡ Some w → request.registers ≡ true → ⊥) → LeadsTo from now m links seen led r → ShowsFirst request r
 shows_by_led request from now m links seen led act r old new is acted_is watches absent (is_refused some same) = absurd (some is.options)
 shows_by_led request from now m links seen led act r old new is acted_is watches absent (finds_no_memory same says) =
     silent request r (ap (λ (x : Reply). sequence_of (reply_options x)) says ∙ unnumbered Memory)
@@ -198,17 +198,17 @@ shows_by_led request from now m links seen led act r old new is acted_is watches
 
 -- the reply to a copy of an ask that is admitted, which is now an entry
 pub led_reply : (w : WorldState) (led : List Entry) (d : Datagram) (k : ℕ) (act : Option Acted) (said : List (List ℕ)) (t : Server) (reply : List ℕ) → (copy : IsCopy w.asks d k) → All HasMessage w.asks → w.server.next_id < 2 ^ 16
-    → ((a : Acted) (x : Watcher) → act ≡ Some a → find (is_pair client_place copy.request.token) w.server.watchers.list ≡ Some x → copy.request.registers ≡ true → ⊥)
+    → ((a : Acted) (x : Observer) → act ≡ Some a → find (is_pair client_place copy.request.token) w.server.observers.list ≡ Some x → copy.request.registers ≡ true → ⊥)
     → (x : IsLed d.from d.bytes w.moment act said w.server t) → said ≡ reply ∷ [] → IsReply w.asks (led ++ entry_of k x.led x.reply ∷ []) k reply
 led_reply w led d k act said t reply copy messages small absent x is = at x.sent
   where
     mine : IsAskOf copy.request x.message
     mine = copy_message w.asks d k x.message copy messages x.met.spells
 
-    absent_here : (a : Acted) (v : Watcher) → act ≡ Some a → find (is_pair d.from x.message.token) w.server.watchers.list ≡ Some v → copy.request.registers ≡ true → ⊥
+    absent_here : (a : Acted) (v : Observer) → act ≡ Some a → find (is_pair d.from x.message.token) w.server.observers.list ≡ Some v → copy.request.registers ≡ true → ⊥
     absent_here a v made there reg = absent a v made
-        (subst (λ (p : Endpoint). find (is_pair p copy.request.token) w.server.watchers.list ≡ Some v) copy.from
-        (subst (λ (n : List ℕ). find (is_pair d.from n) w.server.watchers.list ≡ Some v) mine.message.token there)) reg
+        (subst (λ (p : Endpoint). find (is_pair p copy.request.token) w.server.observers.list ≡ Some v) copy.from
+        (subst (λ (n : List ℕ). find (is_pair d.from n) w.server.observers.list ≡ Some v) mine.message.token there)) reg
 
     at : IsBack x.message x.led x.reply w.server.next_id said → IsReply w.asks (led ++ entry_of k x.led x.reply ∷ []) k reply
     at (inl spelt) =
@@ -216,7 +216,7 @@ led_reply w led d k act said t reply copy messages small absent x is = at x.sent
         made_reply w.asks (led ++ entry_of k x.led x.reply ∷ []) k copy.request x.message x.reply w.server.next_id reply copy.ask mine
         (message_by_led d.from w.moment x.message w.server.links x.seen x.led x.reply w.server.next_id mine.options x.met.spells.bounds small x.leads) same
         (inr (entry_of k x.led x.reply, Contains-push led (entry_of k x.led x.reply), refl, refl))
-        (shows_by_led copy.request d.from w.moment x.message w.server.links x.seen x.led act x.reply w.server.watchers t.watchers mine x.act_is x.watches absent_here x.leads)
+        (shows_by_led copy.request d.from w.moment x.message w.server.links x.seen x.led act x.reply w.server.observers t.observers mine x.act_is x.watches absent_here x.leads)
     at (inr nothing) = absurd (let wrong : reply ∷ [] ≡ [] = sym is ∙ nothing.0 in cc)
 
 living_kept : (asks : List Outstanding) (led : List Entry) (now : ℕ) (t : Table) → All (IsKept asks led) t.exchanges → All (IsKept asks led) (later now t).exchanges

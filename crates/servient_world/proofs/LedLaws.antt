@@ -17,20 +17,20 @@ use Rattle.coap_blocks.specs.declared.added.Added.{Added}
 use Rattle.coap_blocks.specs.declared.added.Added.TheVariants.{Complete}
 use Rattle.thing_ops.specs.Outcomes.{HasCode}
 use Rattle.coap_opts.specs.declared.fault.AskFault.{AskFault}
-use Rattle.coap_opts.specs.Reading.{PlainAsk, faults_of, asked as what_is_asked}
+use Rattle.coap_opts.specs.Reading.{AskSeen, faults_of, asked as what_is_asked}
 use Rattle.coap_observe.specs.Watching.{Watching}
 use Rattle.coap_bind.specs.declared.pending.PendingReply.{PendingReply}
 use Rattle.coap_bind.specs.declared.server.Server.{Server}
 use Rattle.coap_bind.specs.declared.blocks.BlockUse.{BlockUse}
 use Rattle.coap_bind.specs.declared.blocks.BlockUse.TheVariants.{Joined}
-use Rattle.coap_bind.specs.declared.blocks.Wanted.TheVariants as wanted
+use Rattle.coap_bind.specs.declared.blocks.BlockWish.TheVariants as wanted
 use Rattle.coap_bind.specs.Blocks.{use_of, answer_reply, bodies_after}
 use Rattle.coap_bind.specs.Links.{size_asked, links_reply, bodies_with_links}
 use Rattle.coap_bind.specs.Observing.{effect_of, Watches}
 use Rattle.coap_bind.specs.declared.observing.Observing.{Observing}
 use Rattle.coap_bind.specs.Writing.{Reply, full_reply, observed, head_of, coap_reply, ReplyHead, head_in}
 use Rattle.coap_bind.specs.Laws.{HasShortPlace}
-use Rattle.coap_bind.specs.Server.{Heard, ignored, answered_at_once, asked, with_id_used, with_kept, with_parts, with_bodies, with_watchers, with_whole_body, is_request, block_arrival, Adds, pending_of, pending_joined, observing_in, wanted_in, asks_links, links_given, Replies, IsMet, Settles, malformed, no_request, duplicate, full, bad_option, bad_block, for_proxy, no_memory, later_block, joined, takes_no_other_verb, takes_no_body, IsAnsweredAtOnce, replied, bad_option_ignored, gives_links, asks, asks_whole, settled, admitted, Hears, Answers}
+use Rattle.coap_bind.specs.Server.{Heard, ignored, answered_at_once, asked, with_id_used, with_kept, with_parts, with_bodies, with_observers, with_whole_body, is_request, block_arrival, Adds, pending_of, pending_joined, observing_in, wanted_in, asks_links, links_given, Replies, IsMet, Settles, malformed, no_request, duplicate, full, bad_option, bad_block, for_proxy, no_memory, later_block, joined, takes_no_other_verb, takes_no_body, IsAnsweredAtOnce, replied, bad_option_ignored, gives_links, asks, asks_whole, settled, admitted, Hears, Answers}
 use Rattle.coap_bind.specs.Treating.{Acted, ignores, answers, acts, sent_back}
 use Rattle.coap_bind.proofs.HistoryLaws.{not_replied, not_duplicate}
 use Rattle.servient_world.specs.Led.{Led, to_refusal, to_no_memory, to_links, to_later_block, to_parts, to_act, to_act_on_whole, act_in, LeadsTo, is_refused, finds_no_memory, gets_links, gets_no_links, gets_block, is_joined, is_acted_on, is_acted_on_whole, SameBlocks, BlockComes, leaves_text, leaves_nothing, drops_body, Leaves, IsPassedOver, IsLed, AllAreLed}
@@ -42,23 +42,23 @@ record Untouched (v t : Server) : Type 0 where
   bodies : t.bodies ≡ v.bodies
   parts : t.parts ≡ v.parts
   links : t.links ≡ v.links
-  watchers : t.watchers ≡ v.watchers
+  observers : t.observers ≡ v.observers
 
 reply_leaves : (kind : RequestType) (slot : ℕ) (bytes : List ℕ) (v : Server) → Untouched v (with_kept kind slot bytes (with_id_used kind v))
-reply_leaves Confirmable slot bytes v = record { bodies = refl; parts = refl; links = refl; watchers = refl }
-reply_leaves NonConfirmable slot bytes v = record { bodies = refl; parts = refl; links = refl; watchers = refl }
+reply_leaves Confirmable slot bytes v = record { bodies = refl; parts = refl; links = refl; observers = refl }
+reply_leaves NonConfirmable slot bytes v = record { bodies = refl; parts = refl; links = refl; observers = refl }
 
 replied_leaves : (r : Reply) (head : ReplyHead) (slot : ℕ) (bytes : List ℕ) (v t : Server) → Replies r head slot bytes v t → Untouched v t
 replied_leaves r head slot bytes v t replies = subst (Untouched v) (sym replies.after) (reply_leaves head.kind slot bytes v)
 
 id_leaves : (kind : RequestType) (v : Server) → Untouched v (with_id_used kind v) × ((with_id_used kind v).exchanges ≡ v.exchanges)
-id_leaves Confirmable v = (record { bodies = refl; parts = refl; links = refl; watchers = refl }, refl)
-id_leaves NonConfirmable v = (record { bodies = refl; parts = refl; links = refl; watchers = refl }, refl)
+id_leaves Confirmable v = (record { bodies = refl; parts = refl; links = refl; observers = refl }, refl)
+id_leaves NonConfirmable v = (record { bodies = refl; parts = refl; links = refl; observers = refl }, refl)
 
 some_fault : (m : CoapMessage) (f : AskFault) → slice_get (faults_of m.options) 0 ≡ Some f → faults_of m.options ≢ []
 some_fault m f e none = let no_fault : slice_get (faults_of m.options) 0 ≡ None = ap (λ l. slice_get l 0) none in absurd (cc)
 
-abbrev what_in : PlainAsk → Heard → PlainAsk
+abbrev what_in : AskSeen → Heard → AskSeen
 what_in w ignored = w
 what_in w (answered_at_once bytes) = w
 what_in w (asked what ask) = what
@@ -195,12 +195,12 @@ led_to_links from bytes now act back s u t m slot b none met wants links replies
 -- a request that is admitted was acted on
 led_acted : (from : Endpoint) (bytes : List ℕ) (now : ℕ) (act : Option Acted) (back : List (List ℕ)) (s v u t : Server) (m : CoapMessage) (slot : ℕ) (led : Led) (a : Acted) (use_it : BlockUse) (ask : PendingReply) (b : List ℕ)
     → act ≡ Some a → act_in led ≡ Some a → IsMet from bytes now m (Fresh slot) s u → head_in ask ≡ head_of m → ask.slot ≡ slot → ask.from ≡ from → ask.observing ≡ observing_in m → ask.blocks ≡ use_it
-    → v.next_id ≡ u.next_id → v.links ≡ u.links → v.watchers ≡ u.watchers
+    → v.next_id ≡ u.next_id → v.links ≡ u.links → v.observers ≡ u.observers
     → (answer : Answers ask a.outcome a.target b v t) → back ≡ b ∷ []
     → LeadsTo from now m s.links answer.observe led (observed answer.observe (answer_reply use_it a.outcome))
     → (t.bodies ≡ bodies_after use_it from a.outcome v.bodies → t.parts ≡ v.parts → Leaves from now m led s t) → IsLed from bytes now act back s t
-led_acted from bytes now act back s v u t m slot led a use_it ask b acted_is same_act met head at place observing blocks id links watchers answer is leads leaves =
-    let x : Server = with_bodies (bodies_after ask.blocks ask.from a.outcome v.bodies) (with_watchers answer.watchers v) in
+led_acted from bytes now act back s v u t m slot led a use_it ask b acted_is same_act met head at place observing blocks id links observers answer is leads leaves =
+    let x : Server = with_bodies (bodies_after ask.blocks ask.from a.outcome v.bodies) (with_observers answer.observers v) in
     let r : Reply = observed answer.observe (answer_reply ask.blocks a.outcome) in
     let left = replied_leaves r (head_in ask) ask.slot b x t answer.replies in
     let says : r ≡ observed answer.observe (answer_reply use_it a.outcome) = ap (λ (k : BlockUse). observed answer.observe (answer_reply k a.outcome)) blocks in
@@ -217,12 +217,12 @@ led_acted from bytes now act back s v u t m slot led a use_it ask b acted_is sam
       act_is = acted_is ∙ sym same_act;
       watches = λ other some.
           let one : a ≡ other = same_Some a other (sym acted_is ∙ some) in
-          subst (λ (y : Acted). Watches (effect_of (observing_in m) y.outcome y.target) from m.token s.watchers answer.observe t.watchers) one
-          (subst (λ (y : Watching). Watches (effect_of (observing_in m) a.outcome a.target) from m.token s.watchers answer.observe y) (sym left.watchers)
-          (subst (λ (y : Watching). Watches (effect_of (observing_in m) a.outcome a.target) from m.token y answer.observe answer.watchers) (watchers ∙ met.same_watchers)
-          (subst (λ (q : ReplyHead). Watches (effect_of (observing_in m) a.outcome a.target) from q.token v.watchers answer.observe answer.watchers) head
-          (subst (λ (p : Endpoint). Watches (effect_of (observing_in m) a.outcome a.target) p ask.token v.watchers answer.observe answer.watchers) place
-          (subst (λ (o : Observing). Watches (effect_of o a.outcome a.target) ask.from ask.token v.watchers answer.observe answer.watchers) observing answer.watches)))));
+          subst (λ (y : Acted). Watches (effect_of (observing_in m) y.outcome y.target) from m.token s.observers answer.observe t.observers) one
+          (subst (λ (y : Watching). Watches (effect_of (observing_in m) a.outcome a.target) from m.token s.observers answer.observe y) (sym left.observers)
+          (subst (λ (y : Watching). Watches (effect_of (observing_in m) a.outcome a.target) from m.token y answer.observe answer.observers) (observers ∙ met.same_observers)
+          (subst (λ (q : ReplyHead). Watches (effect_of (observing_in m) a.outcome a.target) from q.token v.observers answer.observe answer.observers) head
+          (subst (λ (p : Endpoint). Watches (effect_of (observing_in m) a.outcome a.target) p ask.token v.observers answer.observe answer.observers) place
+          (subst (λ (o : Observing). Watches (effect_of o a.outcome a.target) ask.from ask.token v.observers answer.observe answer.observers) observing answer.watches)))));
       sent = inl (is ∙ ap (λ (y : List ℕ). y ∷ []) (answer.replies.bytes_are
           ∙ (ap (λ (q : ReplyHead). spelling (coap_reply r q v.next_id)) head
           ∙ (ap (λ (y : Reply). spelling (coap_reply y (head_of m) v.next_id)) says
@@ -246,7 +246,7 @@ led_asked from bytes now act back s v t a ask reply (admitted m slot u met (asks
     let use_it : BlockUse = use_of now m.code (observing_in m) (what_is_asked m) in
     led_acted from bytes now act back s v u t m slot (to_act a) a use_it ask reply acted_is refl met
     (ap head_in which) (ap (λ (x : PendingReply). x.slot) which) (ap (λ (x : PendingReply). x.from) which) (ap (λ (x : PendingReply). x.observing) which) (ap (λ (x : PendingReply). x.blocks) which)
-    (ap (λ (x : Server). x.next_id) same) (ap (λ (x : Server). x.links) same) (ap (λ (x : Server). x.watchers) same) answer is
+    (ap (λ (x : Server). x.next_id) same) (ap (λ (x : Server). x.links) same) (ap (λ (x : Server). x.observers) same) answer is
     (is_acted_on a wants apart refl what code place refl)
     (λ bodies parts. (bodies ∙ ap (bodies_after use_it from a.outcome) (ap (λ (x : Server). x.bodies) same ∙ met.same_bodies), parts ∙ (ap (λ (x : Server). x.parts) same ∙ met.same_parts)))
 led_asked from bytes now act back s v t a ask reply (admitted m slot u met (asks_whole b at parts whole faultless wants apart adds there h same)) code place answer acted_is is =
@@ -255,7 +255,7 @@ led_asked from bytes now act back s v t a ask reply (admitted m slot u met (asks
     let arrival = block_arrival from now m b in
     led_acted from bytes now act back s v u t m slot (to_act_on_whole arrival a) a (Joined b) ask reply acted_is refl met
     (ap head_in which) (ap (λ (x : PendingReply). x.slot) which) (ap (λ (x : PendingReply). x.from) which) (ap (λ (x : PendingReply). x.observing) which) (ap (λ (x : PendingReply). x.blocks) which)
-    (ap (λ (x : Server). x.next_id) same) (ap (λ (x : Server). x.links) same) (ap (λ (x : Server). x.watchers) same) answer is
+    (ap (λ (x : Server). x.next_id) same) (ap (λ (x : Server). x.links) same) (ap (λ (x : Server). x.observers) same) answer is
     (is_acted_on_whole a b whole.bytes wants apart refl what code place refl)
     (λ bodies parts_are. (
       record {
@@ -267,13 +267,13 @@ led_asked from bytes now act back s v t a ask reply (admitted m slot u met (asks
         after = parts_are ∙ ap (λ (x : Server). x.parts) same;
         bodies = bodies ∙ (ap (λ (x : Server). x.bodies) same ∙ met.same_bodies);
       },
-      ap (λ (x : PlainAsk). x.request.body) what,
+      ap (λ (x : AskSeen). x.request.body) what,
     ))
 
 -- ---- all
 
 led_unasked : (from : Endpoint) (bytes : List ℕ) (now : ℕ) (h : Heard) (act : Option Acted) (back : List (List ℕ)) (s t : Server) → act ≡ None → back ≡ sent_back h
-    → Hears from bytes now h s t → ((what : PlainAsk) (ask : PendingReply) → h ≡ asked what ask → ⊥) → IsPassedOver bytes now act s t ⊎ IsLed from bytes now act back s t
+    → Hears from bytes now h s t → ((what : AskSeen) (ask : PendingReply) → h ≡ asked what ask → ⊥) → IsPassedOver bytes now act s t ⊎ IsLed from bytes now act back s t
 led_unasked from bytes now h act back s t none is (settled settles) unasked = inl (settled_over from bytes now h act s t none settles)
 led_unasked from bytes now h act back s t none is (admitted m slot u met (replied r parts b why replies e)) unasked =
     inr (led_at_once from bytes now act back s u t m slot r parts b none met replies (is ∙ ap sent_back e) why)

@@ -14,7 +14,7 @@ use Rattle.coap_blocks.specs.Parts.{Origin, Arrival as BlockArrival, is_part_of,
 use Rattle.coap_blocks.specs.declared.added.Added.{Added}
 use Rattle.coap_blocks.specs.declared.added.Added.TheVariants as answer
 use Rattle.thing_ops.specs.declared.outcome.Outcome.TheVariants.{Memory}
-use Rattle.coap_opts.specs.Reading.{PlainAsk, asked as what_is_asked}
+use Rattle.coap_opts.specs.Reading.{AskSeen, asked as what_is_asked}
 use Rattle.coap_bind.specs.declared.server.Server.{Server}
 use Rattle.coap_bind.specs.declared.blocks.BlockUse.{BlockUse}
 use Rattle.coap_bind.specs.declared.blocks.BlockUse.TheVariants as blocks
@@ -230,10 +230,10 @@ entry_reply asks acts links x e = by_reason e.leads
     })
     by_reason (is_acted_on a wants apart same what code place is) =
         inl (act_reply acts x.ask a e.seen x.reply _ (e.acted a (ap act_in same)) is
-        (said_as_asked e.now e.message a.outcome wants ∙ ap (λ (w : PlainAsk). answer_reply (blocks_for w) a.outcome) (sym what)))
+        (said_as_asked e.now e.message a.outcome wants ∙ ap (λ (w : AskSeen). answer_reply (blocks_for w) a.outcome) (sym what)))
     by_reason (is_acted_on_whole a b body wants apart same what code place is) =
         inl (act_reply acts x.ask a e.seen x.reply (blocks.Joined b) (e.acted a (ap act_in same)) is
-        (ap (λ (u : BlockUse). answer_reply u a.outcome) (sym (joined_as_asked e.message b body wants)) ∙ ap (λ (w : PlainAsk). answer_reply (blocks_for w) a.outcome) (sym what)))
+        (ap (λ (u : BlockUse). answer_reply u a.outcome) (sym (joined_as_asked e.message b body wants)) ∙ ap (λ (w : AskSeen). answer_reply (blocks_for w) a.outcome) (sym what)))
 
 -- ---- more asks, acts and entries
 

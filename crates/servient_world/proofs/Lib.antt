@@ -16,7 +16,7 @@ pub mod Exact
 pub mod KeptReplies
 pub mod MeaningLaws
 pub mod ClientLaws
-pub mod NoticeLaws
+pub mod NotificationLaws
 pub mod ServedLaws
 pub mod AnsweredLaws
 pub mod CounterLaws

@@ -103,9 +103,9 @@ no_value_without s from m q none e =
 -- ---- the meaning of a notification
 
 -- the number of a notification
-pub notice_number : (s : State) (from : Endpoint) (n : Notice) (value : List ℕ) (b : Bool) → is_for_observation s.observation from (token_of n) ≡ b → n.sequence < 2 ^ 24
+pub notification_number : (s : State) (from : Endpoint) (n : Notice) (value : List ℕ) (b : Bool) → is_for_observation s.observation from (token_of n) ≡ b → n.sequence < 2 ^ 24
     → notified s from (notification n value) ≡ cond b (Some n.sequence) None
-notice_number s from n value b is low =
+notification_number s from n value b is low =
     ap (λ (x : Bool). cond x (sequence_of (notification n value).options) None) is ∙ ap (λ (y : Option ℕ). cond b y None) (notification_says n value low)
 
 newer_or_old : (b : Bool) (q : ℕ) → cond b (meant.Value q) meant.Old ≡ meant.Response → ⊥
@@ -113,8 +113,8 @@ newer_or_old true q e = cc
 newer_or_old false q e = cc
 
 -- one for the observation is no answer
-pub notice_no_answer : (s : State) (from : Endpoint) (m : CoapMessage) (q : ℕ) → notified s from m ≡ Some q → meaning s from m ≡ meant.Response → ⊥
-notice_no_answer s from m q number e =
+pub notification_no_answer : (s : State) (from : Endpoint) (m : CoapMessage) (q : ℕ) → notified s from m ≡ Some q → meaning s from m ≡ meant.Response → ⊥
+notification_no_answer s from m q number e =
     let taken = answer_taken s from m e in
     let is : meaning s from m ≡ meaning_taken s (Some q) = at_true (is_taken s from m) (meaning_taken s (notified s from m)) (meaning_else s from m m.kind) taken ∙ ap (meaning_taken s) number in
     newer_or_old (is_newer (latest_of s.observation) s.moment q) q (sym is ∙ e)

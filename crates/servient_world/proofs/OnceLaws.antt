@@ -18,12 +18,12 @@ use Rattle.coap_client.proofs.RequestLaws.{last_is_retransmitted}
 use Rattle.coap_observe.specs.declared.notice.Notice.{Notice}
 use Rattle.coap_observe.specs.Accounts.{last_place, token_of}
 use Rattle.coap_bind.specs.declared.server.Server.{Server}
-use Rattle.coap_bind.specs.Server.{start as nothing_came, with_emitted, with_links, with_watchers}
+use Rattle.coap_bind.specs.Server.{start as nothing_came, with_emitted, with_links, with_observers}
 use Rattle.coap_bind.specs.Laws.{Did as ServerDid, nothing as server_did_nothing, emitted as server_emitted, sent as server_sent, linked as server_linked}
 use Rattle.coap_bind.specs.Treating.{Acted}
 use Rattle.coap_bind.proofs.HistoryLaws.{sent_stays}
 use Rattle.servient_world.specs.declared.network.TheConstants.{MAX_LATENCY}
-use Rattle.servient_world.specs.World.{Emission, client_place, server_place, Purpose, copy_of, other, Datagram, Act, AskEnd, Value, WorldState, IsStart, WorldMove, ask, due, deliver, pass, elsewhere, emit, notify, latest, with_sent, ClientAsks, sends_ask, refuses_ask, skips_ask, ClientDoesDue, retransmits, gives_up, waits, ClientTakes, end_by, taken_by, acts_for, id_used, purpose_back, ServerTakes, with_new_value, targets_of, registration_from, purpose_at, purpose_of, notice_sent, with_notice, ServerNotifies, Comes, too_late, to_client, to_server, ComesIfSent, from_elsewhere, ComesElsewhere, comes_elsewhere, skips_end, Plays, PlaysAll}
+use Rattle.servient_world.specs.World.{Emission, client_place, server_place, Purpose, copy_of, other, Datagram, Act, AskEnd, Value, WorldState, IsStart, WorldMove, ask, due, deliver, pass, elsewhere, emit, notify, latest, with_sent, ClientAsks, sends_ask, refuses_ask, skips_ask, ClientDoesDue, retransmits, gives_up, waits, ClientTakes, end_by, taken_by, acts_for, id_used, purpose_back, ServerTakes, with_new_value, targets_of, registration_from, purpose_at, purpose_of, notification_sent, with_notification, ServerNotifies, Comes, too_late, to_client, to_server, ComesIfSent, from_elsewhere, ComesElsewhere, comes_elsewhere, skips_end, Plays, PlaysAll}
 use Rattle.servient_world.specs.Laws.{ActedOnce}
 use Rattle.servient_world.proofs.Places.{all_at, at_last, at_end}
 use Rattle.servient_world.proofs.AskLaws.{HasMessage, asks_are_asks}
@@ -254,10 +254,10 @@ no_copy asks d n emitted = at (is_same_endpoint n.to client_place)
     at true = no_copy_at asks d (registration_from 0 (token_of n) asks) n.sequence (last_place n.target (targets_of emitted))
     at false = tt
 
-holds_noticed : (capacity : ℕ) (w : WorldState) (o : Option Notice) → Holds capacity w → Holds capacity (with_notice o w)
+holds_noticed : (capacity : ℕ) (w : WorldState) (o : Option Notice) → Holds capacity w → Holds capacity (with_notification o w)
 holds_noticed capacity w None h = h
 holds_noticed capacity w (Some n) h =
-    let d : Datagram = notice_sent w.moment w.asks w.emitted n in
+    let d : Datagram = notification_sent w.moment w.asks w.emitted n in
     record {
       did = h.did;
       client_moment = h.client_moment;
@@ -274,7 +274,7 @@ holds_noticed capacity w (Some n) h =
 keeps_notify : (capacity : ℕ) (w v : WorldState) → ServerNotifies w v → Holds capacity w → Holds capacity v
 keeps_notify capacity w v x h =
     let did = server_sent h.history w.server x.after w.moment x.notice h.served.1 x.sends in
-    let same : x.after.exchanges ≡ w.server.exchanges = ap (λ (s : Server). s.exchanges) x.sends.after ∙ sent_stays x.notice (with_watchers x.sends.watchers w.server) in
+    let same : x.after.exchanges ≡ w.server.exchanges = ap (λ (s : Server). s.exchanges) x.sends.after ∙ sent_stays x.notice (with_observers x.sends.observers w.server) in
     let at = ap (λ (t : Table). t.moment) same in
     subst (Holds capacity) (sym x.next)
     (holds_noticed capacity (record w { server = x.after }) x.notice
@@ -289,12 +289,12 @@ holds_after capacity (elsewhere from bytes) w v plays h = keeps_elsewhere capaci
 holds_after capacity (emit e) w v plays h = keeps_emit capacity e w v plays h
 holds_after capacity notify w v plays h = keeps_notify capacity w v plays h
 
-pub holds_at_start : (first_id capacity watchers : ℕ) (w : WorldState) → IsStart first_id capacity watchers w → Holds capacity w
-holds_at_start first_id capacity watchers w s = record {
+pub holds_at_start : (first_id capacity observers : ℕ) (w : WorldState) → IsStart first_id capacity observers w → Holds capacity w
+holds_at_start first_id capacity observers w s = record {
   did = subst (λ (l : List Outstanding). ClientDid l w.client) (sym s.asks) (client_did_nothing first_id w.client s.client);
   client_moment = let at = s.client.moment in omega arith;
   history = [];
-  served = subst (ServerDid capacity []) (sym s.server) (watchers, server_linked [] (nothing_came capacity watchers) (with_links s.links (nothing_came capacity watchers)) s.links server_did_nothing refl);
+  served = subst (ServerDid capacity []) (sym s.server) (observers, server_linked [] (nothing_came capacity observers) (with_links s.links (nothing_came capacity observers)) s.links server_did_nothing refl);
   server_moment = let at = ap (λ (x : Server). x.exchanges.moment) s.server in omega arith;
   messages = subst (All HasMessage) (sym s.asks) (All-nil HasMessage);
   past = subst (All (λ d. d.moment ≤ w.moment)) (sym s.sent) (All-nil (λ (d : Datagram). d.moment ≤ w.moment));
@@ -308,5 +308,5 @@ holds_after_all capacity [] w v plays h = subst (Holds capacity) (sym plays) h
 holds_after_all capacity (m ∷ moves) w v plays h = holds_after_all capacity moves plays.0 v plays.2 (holds_after capacity m w plays.0 plays.1 h)
 
 pub acted_once : ActedOnce
-acted_once first_id exchanges watchers moves w v start plays =
-    (holds_after_all exchanges moves w v plays (holds_at_start first_id exchanges watchers w start)).once
+acted_once first_id exchanges observers moves w v start plays =
+    (holds_after_all exchanges moves w v plays (holds_at_start first_id exchanges observers w start)).once

@@ -13,11 +13,11 @@ use Rattle.coap_client.specs.Answers.{block2_of as block_said}
 use Rattle.coap_blocks.specs.Bodies.{Content}
 use Rattle.coap_blocks.specs.Paths.{is_same_path}
 use Rattle.coap_blocks.proofs.Paths.{same_path, path_itself}
-use Rattle.coap_opts.specs.Reading.{PlainAsk, verb_of, asked as what_is_asked}
+use Rattle.coap_opts.specs.Reading.{AskSeen, verb_of, asked as what_is_asked}
 use Rattle.thing_ops.specs.Outcomes.{payload_of}
 use Rattle.coap_bind.specs.declared.blocks.BlockUse.{BlockUse}
 use Rattle.coap_bind.specs.declared.blocks.BlockUse.TheVariants as blocks
-use Rattle.coap_bind.specs.declared.blocks.Wanted.TheVariants as wanted
+use Rattle.coap_bind.specs.declared.blocks.BlockWish.TheVariants as wanted
 use Rattle.coap_bind.specs.Blocks.{wanted_by_get, wanted_of, use_of, outcome_content, is_kept, answer_reply}
 use Rattle.coap_bind.specs.Links.{is_links_path, size_asked, links_reply}
 use Rattle.coap_bind.specs.Observing.{observing_at, observing_of}
@@ -80,21 +80,21 @@ read_entry v x path szx n z asks_it has code_is =
     }
 
 -- its wish
-wants_get : (code : ℕ) (a : PlainAsk) → code ≡ GET → a.observe ≡ None → wanted_of code (observing_of code a.observe) a ≡ wanted_by_get a.block2
+wants_get : (code : ℕ) (a : AskSeen) → code ≡ GET → a.observe ≡ None → wanted_of code (observing_of code a.observe) a ≡ wanted_by_get a.block2
 wants_get code a get none =
     ap (λ (c : ℕ). wanted_of c (observing_of c a.observe) a) get ∙ ap (λ (o : Option ℕ). wanted_of GET (observing_of GET o) a) none
 
-size_get : (code : ℕ) (a : PlainAsk) (b : Block) → code ≡ GET → a.observe ≡ None → a.block2 ≡ Some b → size_asked (observing_of code a.observe) a ≡ Some b.szx
+size_get : (code : ℕ) (a : AskSeen) (b : Block) → code ≡ GET → a.observe ≡ None → a.block2 ≡ Some b → size_asked (observing_of code a.observe) a ≡ Some b.szx
 size_get code a b get none is =
     ap (λ (c : ℕ). size_asked (observing_of c a.observe) a) get ∙ (ap (λ (o : Option ℕ). size_asked (observing_of GET o) a) none
     ∙ ap (λ (o : Option Block). option_map (λ (y : Block). y.szx) o) is)
 
-use_get : (now code : ℕ) (a : PlainAsk) (b : Block) → code ≡ GET → a.observe ≡ None → a.block2 ≡ Some b → use_of now code (observing_of code a.observe) a ≡ give a.request.path b.szx now
+use_get : (now code : ℕ) (a : AskSeen) (b : Block) → code ≡ GET → a.observe ≡ None → a.block2 ≡ Some b → use_of now code (observing_of code a.observe) a ≡ give a.request.path b.szx now
 use_get now code a b get none is =
     ap (λ (c : ℕ). use_of now c (observing_of c a.observe) a) get ∙ (ap (λ (o : Option ℕ). use_of now GET (observing_of GET o) a) none
     ∙ ap (λ (o : Option Block). blocks.Gives (record { path = a.request.path; szx = option_map (λ (y : Block). y.szx) o; moment = now })) is)
 
-blocks_get : (code : ℕ) (a : PlainAsk) (b : Block) → code ≡ GET → a.observe ≡ None → a.block2 ≡ Some b → blocks_by (verb_of code) a ≡ give a.request.path b.szx 0
+blocks_get : (code : ℕ) (a : AskSeen) (b : Block) → code ≡ GET → a.observe ≡ None → a.block2 ≡ Some b → blocks_by (verb_of code) a ≡ give a.request.path b.szx 0
 blocks_get code a b get none is =
     ap (λ (c : ℕ). blocks_by (verb_of c) a) get
     ∙ (ap (λ (o : Option ℕ). blocks.Gives (record { path = a.request.path; szx = size_asked (observing_at o) a; moment = 0 })) none
@@ -163,7 +163,7 @@ first_read v x path szx z r = by_reason r.is.leads
     by_reason (is_joined b added other same is) = absurd (let wrong : wanted.Act ≡ wanted.Joining b = sym wants ∙ other in cc)
     by_reason (is_acted_on_whole a b body other apart same what code place is) = absurd (let wrong : wanted.Act ≡ wanted.Joining b = sym wants ∙ other in cc)
     by_reason (is_acted_on a act apart same what code place is) =
-        let its : PlainAsk = what_is_asked r.is.message in
+        let its : AskSeen = what_is_asked r.is.message in
         let use_it : use_of r.is.now r.is.message.code (observing_in r.is.message) its ≡ give its.request.path szx r.is.now
         = use_get r.is.now r.is.message.code its r.block r.code r.observe r.block2 ∙ ap (λ (n : ℕ). give its.request.path n r.is.now) r.size in
         let says : r.for_it.entry.reply ≡ observed_reply r.is.seen (answer_reply (give its.request.path szx r.is.now) a.outcome)
@@ -173,10 +173,10 @@ first_read v x path szx z r = by_reason r.is.leads
         let payload : z.payload ≡ (answer_reply (give its.request.path szx r.is.now) a.outcome).payload = r.for_it.payload_is ∙ ap (λ (y : Reply). y.payload) says in
         let block : z.block ≡ block_said (reply_options (answer_reply (give its.request.path szx r.is.now) a.outcome))
         = r.for_it.block_is ∙ (ap (λ (y : Reply). block_said (reply_options y)) says ∙ observed_block r.is.seen (answer_reply (give its.request.path szx r.is.now) a.outcome)) in
-        let path_is : a.what.request.path ≡ path = ap (λ (w : PlainAsk). w.request.path) what ∙ r.path_is in
+        let path_is : a.what.request.path ≡ path = ap (λ (w : AskSeen). w.request.path) what ∙ r.path_is in
         let use_for : blocks_for a.what ≡ give a.what.request.path szx 0
         = ap blocks_for what ∙ (blocks_get r.is.message.code its r.block r.code r.observe r.block2
-        ∙ (ap (λ (n : ℕ). give its.request.path n 0) r.size ∙ ap (λ (w : PlainAsk). give w.request.path szx 0) (sym what))) in
+        ∙ (ap (λ (n : ℕ). give its.request.path n 0) r.size ∙ ap (λ (w : AskSeen). give w.request.path szx 0) (sym what))) in
         record {
           text = payload_of a.outcome;
           first = subst (λ (p : List ℕ). FirstOf szx (payload_of a.outcome) p z.block) (sym payload)

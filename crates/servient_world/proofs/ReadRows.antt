@@ -7,8 +7,8 @@ use Rattle.coap_msg.specs.declared.block.Block.{Block}
 use Rattle.coap_msg.specs.Blocks.{IsBlock, block_size, block_start}
 use Rattle.coap_client.specs.Answers.{block2_of as block_said}
 use Rattle.coap_blocks.specs.Bodies.{Content}
-use Rattle.coap_opts.specs.Reading.{PlainAsk, asked as what_is_asked}
-use Rattle.coap_bind.specs.declared.blocks.Wanted.TheVariants as wanted
+use Rattle.coap_opts.specs.Reading.{AskSeen, asked as what_is_asked}
+use Rattle.coap_bind.specs.declared.blocks.BlockWish.TheVariants as wanted
 use Rattle.coap_bind.specs.Links.{is_links_path, links_content}
 use Rattle.coap_bind.specs.Server.{wanted_in}
 use Rattle.coap_bind.specs.Writing.{Reply, reply_options}
@@ -118,7 +118,7 @@ still_given v x path szx n first row z w r less to_last well =
     ∙ given_still path x.led (suc a.place) (b.place - suc a.place) (omega arith) (λ q y from below at_q held. quiet path y.led held (λ c is path_is.
     let found = between v x (IsOfPath path) first row w.row_is a.place q b.place a.entry y b.entry a.there at_q b.there (omega arith) (omega arith) (omega arith) (omega arith)
     (subst (EndsWell v.ends) (sym b.ask) well)
-    (λ e. sym (ap (λ (k : PlainAsk). k.request.path) (acted_on client_place e.now e.message v.server.links e.seen y.led y.reply c e.leads is).what) ∙ path_is) in
+    (λ e. sym (ap (λ (k : AskSeen). k.request.path) (acted_on client_place e.now e.message v.server.links e.seen y.led y.reply c e.leads is).what) ∙ path_is) in
     elim (one_of first row y.ask found.0) [
       | inl same ↦ absurd (let more = found.1 in omega arith)
       | inr rest ↦
@@ -167,8 +167,8 @@ row_blocks v x path szx first (y ∷ row) w up followed =
     rest_blocks v x path szx 1 first (y ∷ row) first.ask (y ∷ row) (λ e. omega arith) w w.others (omega arith) up (λ z more same. sym (ap (λ (l : List RowAsk). (last_of first l).ask) same)) followed
 
 pub reads_are_of_one_act : ReadsAreOfOneAct
-reads_are_of_one_act first_id exchanges watchers moves w v path szx z row start plays few are order no_other =
-    let s = stands_after_all exchanges watchers moves w v plays few (stands_at_start first_id exchanges watchers w start) in
+reads_are_of_one_act first_id exchanges observers moves w v path szx z row start plays few are order no_other =
+    let s = stands_after_all exchanges observers moves w v plays few (stands_at_start first_id exchanges observers w start) in
     let x = s.exact in
     let entry = read_entry v x path szx 0 z are.0 are.1 are.2 in
     let whole : ReadRow v x path szx z row = record {

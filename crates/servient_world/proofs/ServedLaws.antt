@@ -12,13 +12,13 @@ use Rattle.coap_msg.proofs.SameEndpoints.{same_endpoint}
 use Rattle.coap_exchange.specs.Admission.{Arrival}
 use Rattle.coap_exchange.specs.Table.{Exchange, Table, at_moment as later}
 use Rattle.coap_client.proofs.RequestLaws.{ids_differ}
-use Rattle.coap_observe.specs.declared.watcher.Watcher.{Watcher}
+use Rattle.coap_observe.specs.declared.observer.Observer.{Observer}
 use Rattle.coap_observe.specs.declared.notice.Notice.{Notice}
 use Rattle.coap_observe.specs.Watching.{is_pair}
 use Rattle.coap_observe.specs.Accounts.{IsToRegistered, token_of}
-use Rattle.coap_observe.proofs.AccountLaws.{watcher_registered, notices_go_to_the_registered}
+use Rattle.coap_observe.proofs.AccountLaws.{observer_registered, notifications_go_to_the_registered}
 use Rattle.coap_bind.specs.declared.server.Server.{Server}
-use Rattle.coap_bind.specs.Server.{with_next_id, with_watchers, with_notice_sent, SendsNext}
+use Rattle.coap_bind.specs.Server.{with_next_id, with_observers, with_notification_sent, SendsNext}
 use Rattle.coap_bind.specs.Laws.{Did as ServerDid, sent as server_sent}
 use Rattle.coap_bind.specs.Writing.{notification}
 use Rattle.coap_bind.specs.Treating.{Acted, Treats}
@@ -26,7 +26,7 @@ use Rattle.coap_bind.proofs.HistoryLaws.{sent_stays}
 use Rattle.coap_bind.proofs.MessageLaws.{notifications_are_messages}
 use Rattle.coap_bind.proofs.TreatingLaws.{all_are_treated}
 use Rattle.servient_world.specs.declared.network.TheConstants.{MAX_LATENCY}
-use Rattle.servient_world.specs.World.{Emission, client_place, server_place, Purpose, copy_of, reply_to, notice_for, other, Datagram, Act, End, answered, observed, reset, timed_out, AskEnd, WorldState, with_sent, Receives, too_long, treated, id_used, acts_for, purpose_back, ServerTakes, last_value, purpose_of, notice_sent, with_notice}
+use Rattle.servient_world.specs.World.{Emission, client_place, server_place, Purpose, copy_of, reply_to, notification_for, other, Datagram, Act, End, answered, observed, reset, timed_out, AskEnd, WorldState, with_sent, Receives, too_long, treated, id_used, acts_for, purpose_back, ServerTakes, last_value, purpose_of, notification_sent, with_notification}
 use Rattle.servient_world.specs.Led.{Led, to_refusal, to_no_memory, to_links, to_later_block, to_parts, to_act, to_act_on_whole, LeadsTo, Leaves, IsPassedOver, IsLed}
 use Rattle.servient_world.proofs.AskLaws.{HasMessage}
 use Rattle.servient_world.proofs.LedLaws.{all_are_led}
@@ -39,7 +39,7 @@ use Rattle.servient_world.proofs.WatchLaws.{IsKnown, Watched, none_registered}
 use Rattle.servient_world.proofs.Exact.{Exact, IsReply, IsKept, IsSaid, IsSentBack, IsEnd, said_later, all_ends_more}
 use Rattle.servient_world.proofs.KeptReplies.{IsRight, no_request_of, nothing_back, led_reply, right_copy, kept_elsewhere}
 use Rattle.servient_world.proofs.ClientLaws.{not_one, said_sent}
-use Rattle.servient_world.proofs.NoticeLaws.{purpose_is, not_client_purpose, not_place}
+use Rattle.servient_world.proofs.NotificationLaws.{purpose_is, not_client_purpose, not_place}
 
 -- ---- the server takes something
 
@@ -173,17 +173,17 @@ not_passed s t now e same more =
     let three = length_push (later now s.exchanges).exchanges e in
     omega arith
 
-exact_treated : (capacity watchers : ℕ) (d : Datagram) (w : WorldState) (p : Purpose) (act : Option Acted) (back : List (List ℕ)) (t : Server) (n : ℕ) → Holds capacity w → length w.asks ≤ 65536
-    → Watched watchers w → (x : Exact w) → IsSentFor w.asks d p → IsSaid w.asks w.acts x.led d p → d.to ≡ server_place → d.moment ≤ w.moment → w.moment - d.moment ≤ MAX_LATENCY
+exact_treated : (capacity observers : ℕ) (d : Datagram) (w : WorldState) (p : Purpose) (act : Option Acted) (back : List (List ℕ)) (t : Server) (n : ℕ) → Holds capacity w → length w.asks ≤ 65536
+    → Watched observers w → (x : Exact w) → IsSentFor w.asks d p → IsSaid w.asks w.acts x.led d p → d.to ≡ server_place → d.moment ≤ w.moment → w.moment - d.moment ≤ MAX_LATENCY
     → AllPairs (λ x y. x.ask ≢ y.ask) (w.acts ++ acts_for p act) → Treats d.from d.bytes w.moment act back w.server t
     → Exact (with_sent (record w { server = t; acts = w.acts ++ acts_for p act; ids = n }) server_place d.from (purpose_back p) back)
-exact_treated capacity watchers d w (copy_of k) act back t n h few y x copy is to past soon once treats =
-    let absent : (a : Acted) (v : Watcher) → act ≡ Some a → find (is_pair client_place copy.request.token) w.server.watchers.list ≡ Some v → copy.request.registers ≡ true → ⊥
+exact_treated capacity observers d w (copy_of k) act back t n h few y x copy is to past soon once treats =
+    let absent : (a : Acted) (v : Observer) → act ≡ Some a → find (is_pair client_place copy.request.token) w.server.observers.list ≡ Some v → copy.request.registers ≡ true → ⊥
     = λ a v made there reg.
     let last : Act = record { ask = k; acted = a } in
     let differ : AllPairs (λ x y. x.ask ≢ y.ask) (w.acts ++ last ∷ []) = subst (λ (o : Option Acted). AllPairs (λ x y. x.ask ≢ y.ask) (w.acts ++ acts_for (copy_of k) o)) made once in
-    let none = none_registered capacity watchers w k copy.request last h few y copy.ask reg refl differ in
-    let some = watcher_registered watchers y.account w.server.watchers client_place copy.request.token v y.did there in
+    let none = none_registered capacity observers w k copy.request last h few y copy.ask reg refl differ in
+    let some = observer_registered observers y.account w.server.observers client_place copy.request.token v y.did there in
     omega arith in
     let differ = ids_differ w.asks w.client h.did few in
     let was_treated = all_are_treated d.from d.bytes w.moment act back w.server t treats in
@@ -196,9 +196,9 @@ exact_treated capacity watchers d w (copy_of k) act back t n h few y x copy is t
           (right_copy w x.led (entry_of k led.led led.reply ∷ []) d k act back t copy h.messages differ y.id x.kept
           (λ m e reply spells request is more. led_reply w x.led d k act back t reply copy h.messages y.id absent led is) was_treated)
     ]
-exact_treated capacity watchers d w (reply_to k) act back t n h few y x copy is to past soon once treats = absurd (not_one (sym to ∙ is.to))
-exact_treated capacity watchers d w (notice_for k q e) act back t n h few y x copy is to past soon once treats = absurd (not_one (sym to ∙ is.to))
-exact_treated capacity watchers d w other act back t n h few y x copy is to past soon once treats = elim is.1 [
+exact_treated capacity observers d w (reply_to k) act back t n h few y x copy is to past soon once treats = absurd (not_one (sym to ∙ is.to))
+exact_treated capacity observers d w (notification_for k q e) act back t n h few y x copy is to past soon once treats = absurd (not_one (sym to ∙ is.to))
+exact_treated capacity observers d w other act back t n h few y x copy is to past soon once treats = elim is.1 [
   | inl never ↦ absurd (never to)
   | inr empty ↦
       let nothing = nothing_back w x.led d act back t empty x.kept (all_are_treated d.from d.bytes w.moment act back w.server t treats) in
@@ -222,16 +222,16 @@ exact_elsewhere w from bytes act back t n x not_client not_server treats =
     (kept_elsewhere w.asks x.led from bytes w.moment act back w.server t not_client x.kept (all_are_treated from bytes w.moment act back w.server t treats))
     (λ i d within. (not_client, inl not_server))
 
-pub exact_received : (capacity watchers : ℕ) (d : Datagram) (w v : WorldState) → ServerTakes d w v → Holds capacity w → Holds capacity v → length w.asks ≤ 65536 → Watched watchers w → (x : Exact w)
+pub exact_received : (capacity observers : ℕ) (d : Datagram) (w v : WorldState) → ServerTakes d w v → Holds capacity w → Holds capacity v → length w.asks ≤ 65536 → Watched observers w → (x : Exact w)
     → IsSentFor w.asks d d.purpose → IsSaid w.asks w.acts x.led d d.purpose → d.to ≡ server_place → d.moment ≤ w.moment → w.moment - d.moment ≤ MAX_LATENCY → Exact v
-exact_received capacity watchers d w v s h h_after few y x sent said to past soon = subst Exact (sym s.next) (at s.receives)
+exact_received capacity observers d w v s h h_after few y x sent said to past soon = subst Exact (sym s.next) (at s.receives)
   where
     at : Receives d.from d.bytes w.moment s.act s.back w.server s.after
         → Exact (with_sent (record w { server = s.after; acts = w.acts ++ acts_for d.purpose s.act; ids = w.ids + id_used w.server s.after }) server_place d.from (purpose_back d.purpose) s.back)
     at (too_long long none nothing same) =
         exact_silent w s.after (acts_for d.purpose s.act) (w.ids + id_used w.server s.after) d.from (purpose_back d.purpose) s.back (no_acts d.purpose s.act none) same nothing x
     at (treated short treats) =
-        exact_treated capacity watchers d w d.purpose s.act s.back s.after (w.ids + id_used w.server s.after) h few y x sent said to past soon
+        exact_treated capacity observers d w d.purpose s.act s.back s.after (w.ids + id_used w.server s.after) h few y x sent said to past soon
         (subst (λ (l : List Act). AllPairs (λ x y. x.ask ≢ y.ask) l) (ap (λ (z : WorldState). z.acts) s.next) h_after.once) treats
 
 -- the server changed, but for the exchanges, the bodies, the parts and the links
@@ -251,15 +251,15 @@ exact_server w t emitted same bodies parts links x did = record {
 }
 
 -- the notification that is sent
-said_notice : (capacity : ℕ) (w : WorldState) (led : List Entry) (n : Notice) → Holds capacity w → length w.asks ≤ 65536 → IsKnown w.asks w.acts (record { from = n.to; token = token_of n; target = n.target })
-    → n.sequence < 2 ^ 24 → Spells (notification n (last_value n.target w.emitted)) (notice_sent w.moment w.asks w.emitted n).bytes
-    → IsSaid w.asks w.acts led (notice_sent w.moment w.asks w.emitted n) (purpose_of n w.asks w.emitted)
-said_notice capacity w led n h few known low spells = elim (cases_Bool (is_same_endpoint n.to client_place)) [
+said_notification : (capacity : ℕ) (w : WorldState) (led : List Entry) (n : Notice) → Holds capacity w → length w.asks ≤ 65536 → IsKnown w.asks w.acts (record { from = n.to; token = token_of n; target = n.target })
+    → n.sequence < 2 ^ 24 → Spells (notification n (last_value n.target w.emitted)) (notification_sent w.moment w.asks w.emitted n).bytes
+    → IsSaid w.asks w.acts led (notification_sent w.moment w.asks w.emitted n) (purpose_of n w.asks w.emitted)
+said_notification capacity w led n h few known low spells = elim (cases_Bool (is_same_endpoint n.to client_place)) [
   | inl here ↦
       let to = same_endpoint n.to client_place here in
       let is = known.1 to in
-      let d : Datagram = notice_sent w.moment w.asks w.emitted n in
-      subst (IsSaid w.asks w.acts led (notice_sent w.moment w.asks w.emitted n)) (sym (purpose_is capacity w n h few to is).purpose) (record {
+      let d : Datagram = notification_sent w.moment w.asks w.emitted n in
+      subst (IsSaid w.asks w.acts led (notification_sent w.moment w.asks w.emitted n)) (sym (purpose_is capacity w n h few to is).purpose) (record {
         from = refl;
         to = to;
         request = is.request;
@@ -277,12 +277,12 @@ said_notice capacity w led n h few known low spells = elim (cases_Bool (is_same_
         spells = spells;
       })
   | inr elsewhere_is ↦
-      subst (IsSaid w.asks w.acts led (notice_sent w.moment w.asks w.emitted n)) (sym (not_client_purpose n w.asks w.emitted elsewhere_is))
+      subst (IsSaid w.asks w.acts led (notification_sent w.moment w.asks w.emitted n)) (sym (not_client_purpose n w.asks w.emitted elsewhere_is))
       (not_place n.to client_place elsewhere_is, inl known.0)
 ]
 
 -- the bodies and the parts of a server that sends a notification
-sent_leaves : (n : Option Notice) (s : Server) → ((with_notice_sent n s).bodies ≡ s.bodies) × ((with_notice_sent n s).parts ≡ s.parts) × ((with_notice_sent n s).links ≡ s.links)
+sent_leaves : (n : Option Notice) (s : Server) → ((with_notification_sent n s).bodies ≡ s.bodies) × ((with_notification_sent n s).parts ≡ s.parts) × ((with_notification_sent n s).links ≡ s.links)
 sent_leaves None s = (refl, refl, refl)
 sent_leaves (Some n) s = at n.fresh
   where
@@ -292,18 +292,18 @@ sent_leaves (Some n) s = at n.fresh
 
 exact_sends : (w : WorldState) (t : Server) (o : Option Notice) → SendsNext w.moment o w.server t → Exact w → Exact (record w { server = t })
 exact_sends w t o sends x =
-    let left = sent_leaves o (with_watchers sends.watchers w.server) in
-    exact_server w t w.emitted (ap (λ (z : Server). z.exchanges) sends.after ∙ sent_stays o (with_watchers sends.watchers w.server))
+    let left = sent_leaves o (with_observers sends.observers w.server) in
+    exact_server w t w.emitted (ap (λ (z : Server). z.exchanges) sends.after ∙ sent_stays o (with_observers sends.observers w.server))
     (ap (λ (z : Server). z.bodies) sends.after ∙ left.0) (ap (λ (z : Server). z.parts) sends.after ∙ left.1) (ap (λ (z : Server). z.links) sends.after ∙ left.2) x
     (x.ledger.served.0, server_sent x.ledger.history w.server t w.moment o x.ledger.served.1 sends)
 
-pub exact_noted : (capacity watchers : ℕ) (w : WorldState) (t : Server) (o : Option Notice) → Holds capacity w → length w.asks ≤ 65536 → Watched watchers w → SendsNext w.moment o w.server t → Exact w
-    → Exact (with_notice o (record w { server = t }))
-exact_noted capacity watchers w t None h few y sends x = exact_sends w t None sends x
-exact_noted capacity watchers w t (Some n) h few y sends x =
+pub exact_noted : (capacity observers : ℕ) (w : WorldState) (t : Server) (o : Option Notice) → Holds capacity w → length w.asks ≤ 65536 → Watched observers w → SendsNext w.moment o w.server t → Exact w
+    → Exact (with_notification o (record w { server = t }))
+exact_noted capacity observers w t None h few y sends x = exact_sends w t None sends x
+exact_noted capacity observers w t (Some n) h few y sends x =
     let at = exact_sends w t (Some n) sends x in
-    let d : Datagram = notice_sent w.moment w.asks w.emitted n in
-    let goes : IsToRegistered y.account n = notices_go_to_the_registered watchers y.account w.server.watchers w.moment w.server.next_id n sends.watchers.list y.did y.id sends.notifies in
+    let d : Datagram = notification_sent w.moment w.asks w.emitted n in
+    let goes : IsToRegistered y.account n = notifications_go_to_the_registered observers y.account w.server.observers w.moment w.server.next_id n sends.observers.list y.did y.id sends.notifies in
     let known = All-contains (IsKnown w.asks w.acts) y.account.registered (record { from = n.to; token = token_of n; target = n.target }) y.registered goes.registered in
     let spells : Spells (notification n (last_value n.target w.emitted)) d.bytes
     = record { bounds = notifications_are_messages n (last_value n.target w.emitted) goes.sendable goes.id; bytes_are = refl } in
@@ -315,6 +315,6 @@ exact_noted capacity watchers w t (Some n) h few y sends x =
       fed = at.fed;
       first = at.first;
       kept = at.kept;
-      said = All-push (λ (z : Datagram). IsSaid w.asks w.acts at.led z z.purpose) w.sent d at.said (said_notice capacity w at.led n h few known goes.sendable.sequence spells);
+      said = All-push (λ (z : Datagram). IsSaid w.asks w.acts at.led z z.purpose) w.sent d at.said (said_notification capacity w at.led n h few known goes.sendable.sequence spells);
       ended = at.ended;
     }

@@ -22,22 +22,22 @@ use Rattle.coap_client.specs.Answers.{meaning, sequence_of}
 use Rattle.coap_client.specs.Exchange.{at_moment, request_for, Delivers, of_message, of_fault, IsNews}
 use Rattle.coap_observe.specs.declared.notice.Notice.{Notice}
 use Rattle.coap_observe.specs.Accounts.{place_after, last_place, token_of, IsToRegistered}
-use Rattle.coap_observe.proofs.AccountLaws.{notices_go_to_the_registered}
+use Rattle.coap_observe.proofs.AccountLaws.{notifications_go_to_the_registered}
 use Rattle.coap_bind.specs.declared.server.Server.{Server}
 use Rattle.coap_bind.specs.Server.{SendsNext}
 use Rattle.coap_bind.specs.Writing.{Reply, reply_options, notification}
 use Rattle.coap_bind.proofs.MessageLaws.{notifications_are_messages}
-use Rattle.servient_world.specs.World.{Emission, client_place, server_place, Purpose, copy_of, reply_to, notice_for, other, Datagram, Act, WorldState, Value, AskEnd, WorldMove, ask, due, deliver, pass, elsewhere, emit, notify, with_sent, latest, value_by, taken_by, end_by, acts_for, purpose_back, id_used, targets_of, value_after, last_value, purpose_of, notice_sent, with_notice, ClientAsks, sends_ask, refuses_ask, skips_ask, ClientDoesDue, retransmits, gives_up, waits, Comes, too_late, to_client, to_server, ComesIfSent, ComesElsewhere, comes_elsewhere, skips_end, Plays, PlaysAll}
+use Rattle.servient_world.specs.World.{Emission, client_place, server_place, Purpose, copy_of, reply_to, notification_for, other, Datagram, Act, WorldState, Value, AskEnd, WorldMove, ask, due, deliver, pass, elsewhere, emit, notify, with_sent, latest, value_by, taken_by, end_by, acts_for, purpose_back, id_used, targets_of, value_after, last_value, purpose_of, notification_sent, with_notification, ClientAsks, sends_ask, refuses_ask, skips_ask, ClientDoesDue, retransmits, gives_up, waits, Comes, too_late, to_client, to_server, ComesIfSent, ComesElsewhere, comes_elsewhere, skips_end, Plays, PlaysAll}
 use Rattle.servient_world.specs.Laws.{WasRead, WasEmitted, ValuesHaveASource}
 use Rattle.servient_world.proofs.Places.{all_at, at_more, at_last}
 use Rattle.servient_world.proofs.Holds.{Holds}
 use Rattle.servient_world.proofs.WatchLaws.{IsKnown, Watched}
 use Rattle.servient_world.proofs.Ledger.{Entry, IsEntry, entry_reply}
 use Rattle.servient_world.proofs.Exact.{Exact, IsSaid, IsWhy}
-use Rattle.servient_world.proofs.NoticeLaws.{purpose_is, not_client_purpose}
+use Rattle.servient_world.proofs.NotificationLaws.{purpose_is, not_client_purpose}
 use Rattle.servient_world.proofs.EndLaws.{grows_by, all_grow, Stands, stands_after, stands_at_start}
 use Rattle.servient_world.proofs.ValueLaws.{value_says, notified_says}
-use Rattle.servient_world.proofs.TakenLaws.{IsFor, back_on, notice_of, is_for_end, bytes_of}
+use Rattle.servient_world.proofs.TakenLaws.{IsFor, back_on, notification_of, is_for_end, bytes_of}
 
 -- ---- the last value of a target
 
@@ -94,7 +94,7 @@ record Says (acts : List Act) (emitted : List Emission) (k e : ℕ) (d : Datagra
   there : slice_get emitted (e - 1) ≡ Some (record { target = notice.target; text = value })
 
 abbrev SaysIt : List Act → List Emission → Datagram → Purpose → Type 0
-SaysIt acts emitted d (notice_for k q e) = Says acts emitted k e d
+SaysIt acts emitted d (notification_for k q e) = Says acts emitted k e d
 SaysIt acts emitted d (copy_of k) = Unit {0}
 SaysIt acts emitted d (reply_to k) = Unit {0}
 SaysIt acts emitted d other = Unit {0}
@@ -107,7 +107,7 @@ record Sourced (w : WorldState) : Type 0 where
   source : All (IsSource w.acts w.emitted) w.taken
 
 says_more : (acts more : List Act) (emitted later : List Emission) (d : Datagram) (p : Purpose) → SaysIt acts emitted d p → SaysIt (acts ++ more) (emitted ++ later) d p
-says_more acts more emitted later d (notice_for k q e) x = record {
+says_more acts more emitted later d (notification_for k q e) x = record {
   act = x.act;
   made = Contains-append_left acts more x.act x.made;
   for_it = x.for_it;
@@ -163,7 +163,7 @@ sourced_sent w from to p said plain y =
 plain_back : (p : Purpose) (acts : List Act) (emitted : List Emission) (d : Datagram) → SaysIt acts emitted d (purpose_back p)
 plain_back (copy_of k) acts emitted d = tt
 plain_back (reply_to k) acts emitted d = tt
-plain_back (notice_for k q e) acts emitted d = tt
+plain_back (notification_for k q e) acts emitted d = tt
 plain_back other acts emitted d = tt
 
 -- ---- values that are taken
@@ -191,7 +191,7 @@ source_of w x i d p m q payload y (back_on k is sent) says spells e same =
     let read = read_of w.asks w.acts w.server.links x.led k right.reply payload x.ledger.entries right.why (λ unseen. no_number m.options q shown.1 (ap sequence_of options ∙ unseen)) (same ∙ (ap (λ (y : CoapMessage). y.payload) one ∙ right.payload)) in
     subst (λ (z : Purpose). All (IsSource w.acts w.emitted) (value_by z payload)) (sym is)
     (All-push (IsSource w.acts w.emitted) [] (record { ask = k; place = 0; payload = payload }) (All-nil (IsSource w.acts w.emitted)) (inl read))
-source_of w x i d p m q payload y (notice_of k q0 place is n_of) says spells e same =
+source_of w x i d p m q payload y (notification_of k q0 place is n_of) says spells e same =
     let n : Says w.acts w.emitted k place d = subst (SaysIt w.acts w.emitted d) is says in
     let one : m ≡ notification n.notice n.value = at_most_one_message m (notification n.notice n.value) d.bytes spells n.spells in
     let text : n.value ≡ payload = sym (ap (λ (z : CoapMessage). z.payload) one) ∙ sym same in
@@ -263,13 +263,13 @@ sourced_elsewhere from bytes w v (comes_elsewhere no_end s) y =
     (sourced_acts w s.after (w.ids + id_used w.server s.after) [] y))
 sourced_elsewhere from bytes w v (skips_end is_one is) y = subst Sourced (sym is) y
 
-sourced_noticed : (capacity watchers : ℕ) (w : WorldState) (t : Server) (o : Option Notice) → Holds capacity w → length w.asks ≤ 65536 → Watched watchers w → SendsNext w.moment o w.server t → Sourced w
-    → Sourced (with_notice o (record w { server = t }))
-sourced_noticed capacity watchers w t None h few x sends y = record { says = y.says; source = y.source }
-sourced_noticed capacity watchers w t (Some n) h few x sends y =
-    let goes : IsToRegistered x.account n = notices_go_to_the_registered watchers x.account w.server.watchers w.moment w.server.next_id n sends.watchers.list x.did x.id sends.notifies in
+sourced_noticed : (capacity observers : ℕ) (w : WorldState) (t : Server) (o : Option Notice) → Holds capacity w → length w.asks ≤ 65536 → Watched observers w → SendsNext w.moment o w.server t → Sourced w
+    → Sourced (with_notification o (record w { server = t }))
+sourced_noticed capacity observers w t None h few x sends y = record { says = y.says; source = y.source }
+sourced_noticed capacity observers w t (Some n) h few x sends y =
+    let goes : IsToRegistered x.account n = notifications_go_to_the_registered observers x.account w.server.observers w.moment w.server.next_id n sends.observers.list x.did x.id sends.notifies in
     let known = All-contains (IsKnown w.asks w.acts) x.account.registered (record { from = n.to; token = token_of n; target = n.target }) x.registered goes.registered in
-    let d : Datagram = notice_sent w.moment w.asks w.emitted n in
+    let d : Datagram = notification_sent w.moment w.asks w.emitted n in
     let spells : Spells (notification n (last_value n.target w.emitted)) d.bytes
     = record { bounds = notifications_are_messages n (last_value n.target w.emitted) goes.sendable goes.id; bytes_are = refl } in
     let some : 0 < last_place n.target (targets_of w.emitted) = subst (λ (l : List ℕ). 0 < last_place n.target l) x.values goes.valued in
@@ -292,27 +292,27 @@ sourced_noticed capacity watchers w t (Some n) h few x sends y =
     ] in
     record { says = All-push (λ (z : Datagram). SaysIt w.acts w.emitted z z.purpose) w.sent d y.says it; source = y.source }
 
-sourced_after : (capacity watchers : ℕ) (m : WorldMove) (w v : WorldState) → Plays m w v → Stands capacity watchers w → length w.asks ≤ 65536 → Sourced w → Sourced v
-sourced_after capacity watchers (ask a) w v plays s few y = sourced_ask a w v plays y
-sourced_after capacity watchers due w v plays s few y = sourced_due w v plays y
-sourced_after capacity watchers (deliver i) w v plays s few y = sourced_deliver w v i (slice_get w.sent i) refl plays s.exact y
-sourced_after capacity watchers (pass n) w v plays s few y = subst Sourced (sym plays) (record { says = y.says; source = y.source })
-sourced_after capacity watchers (elsewhere from bytes) w v plays s few y = sourced_elsewhere from bytes w v plays y
-sourced_after capacity watchers (emit e) w v plays s few y = subst Sourced (sym plays) (sourced_values w _ (e ∷ []) y)
-sourced_after capacity watchers notify w v plays s few y =
-    subst Sourced (sym plays.next) (sourced_noticed capacity watchers w plays.after plays.notice s.holds few s.watched plays.sends y)
+sourced_after : (capacity observers : ℕ) (m : WorldMove) (w v : WorldState) → Plays m w v → Stands capacity observers w → length w.asks ≤ 65536 → Sourced w → Sourced v
+sourced_after capacity observers (ask a) w v plays s few y = sourced_ask a w v plays y
+sourced_after capacity observers due w v plays s few y = sourced_due w v plays y
+sourced_after capacity observers (deliver i) w v plays s few y = sourced_deliver w v i (slice_get w.sent i) refl plays s.exact y
+sourced_after capacity observers (pass n) w v plays s few y = subst Sourced (sym plays) (record { says = y.says; source = y.source })
+sourced_after capacity observers (elsewhere from bytes) w v plays s few y = sourced_elsewhere from bytes w v plays y
+sourced_after capacity observers (emit e) w v plays s few y = subst Sourced (sym plays) (sourced_values w _ (e ∷ []) y)
+sourced_after capacity observers notify w v plays s few y =
+    subst Sourced (sym plays.next) (sourced_noticed capacity observers w plays.after plays.notice s.holds few s.watched plays.sends y)
 
-sourced_after_all : (capacity watchers : ℕ) (moves : List WorldMove) (w v : WorldState) → PlaysAll moves w v → length v.asks ≤ 65536 → Stands capacity watchers w → Sourced w → Sourced v
-sourced_after_all capacity watchers [] w v plays few s y = subst Sourced (sym plays) y
-sourced_after_all capacity watchers (m ∷ moves) w v plays few s y =
+sourced_after_all : (capacity observers : ℕ) (moves : List WorldMove) (w v : WorldState) → PlaysAll moves w v → length v.asks ≤ 65536 → Stands capacity observers w → Sourced w → Sourced v
+sourced_after_all capacity observers [] w v plays few s y = subst Sourced (sym plays) y
+sourced_after_all capacity observers (m ∷ moves) w v plays few s y =
     let one = (grows_by m w plays.0 plays.1).asks in
     let more = (all_grow moves plays.0 v plays.2).asks in
-    sourced_after_all capacity watchers moves plays.0 v plays.2 few (stands_after capacity watchers m w plays.0 plays.1 (omega arith) s)
-    (sourced_after capacity watchers m w plays.0 plays.1 s (omega arith) y)
+    sourced_after_all capacity observers moves plays.0 v plays.2 few (stands_after capacity observers m w plays.0 plays.1 (omega arith) s)
+    (sourced_after capacity observers m w plays.0 plays.1 s (omega arith) y)
 
 pub values_have_a_source : ValuesHaveASource
-values_have_a_source first_id exchanges watchers moves w v start plays few =
-    (sourced_after_all exchanges watchers moves w v plays few (stands_at_start first_id exchanges watchers w start) (record {
+values_have_a_source first_id exchanges observers moves w v start plays few =
+    (sourced_after_all exchanges observers moves w v plays few (stands_at_start first_id exchanges observers w start) (record {
       says = subst (All (λ d. SaysIt w.acts w.emitted d d.purpose)) (sym start.sent) (All-nil (λ (d : Datagram). SaysIt w.acts w.emitted d d.purpose));
       source = subst (All (IsSource w.acts w.emitted)) (sym start.taken) (All-nil (IsSource w.acts w.emitted));
     })).source

@@ -33,24 +33,24 @@ use Rattle.coap_client.proofs.RequestLaws.{last_is_outstanding, ids_differ}
 use Rattle.coap_client.proofs.TokenLaws.{no_value_yet, kept_seen, same_seen_due}
 use Rattle.coap_observe.specs.declared.notice.Notice.{Notice}
 use Rattle.coap_observe.specs.Laws.{is_for}
-use Rattle.coap_observe.specs.Accounts.{SentNotice, Account, GoesBefore, IsToRegistered, IsInOrder, last_place, token_of, one_if, registrations_of, fresh_count}
-use Rattle.coap_observe.proofs.AccountLaws.{notices_go_to_the_registered, notices_are_in_order}
+use Rattle.coap_observe.specs.Accounts.{SentNotification, Account, GoesBefore, IsToRegistered, IsInOrder, last_place, token_of, one_if, registrations_of, fresh_count}
+use Rattle.coap_observe.proofs.AccountLaws.{notifications_go_to_the_registered, notifications_are_in_order}
 use Rattle.coap_bind.specs.declared.server.Server.{Server}
 use Rattle.coap_bind.specs.Server.{SendsNext}
 use Rattle.coap_bind.specs.Writing.{notification}
 use Rattle.servient_world.specs.declared.network.TheConstants.{MAX_LATENCY}
-use Rattle.servient_world.specs.World.{client_place, server_place, Purpose, copy_of, reply_to, notice_for, other, Datagram, WorldState, Value, AskEnd, IsStart, WorldMove, ask, due, deliver, pass, elsewhere, emit, notify, latest, value_by, taken_by, end_by, acts_for, purpose_back, id_used, targets_of, notice_sent, with_notice, ClientAsks, sends_ask, refuses_ask, skips_ask, ClientDoesDue, retransmits, gives_up, waits, Comes, too_late, to_client, to_server, ComesIfSent, ComesElsewhere, comes_elsewhere, skips_end, with_new_value, Plays, PlaysAll}
+use Rattle.servient_world.specs.World.{client_place, server_place, Purpose, copy_of, reply_to, notification_for, other, Datagram, WorldState, Value, AskEnd, IsStart, WorldMove, ask, due, deliver, pass, elsewhere, emit, notify, latest, value_by, taken_by, end_by, acts_for, purpose_back, id_used, targets_of, notification_sent, with_notification, ClientAsks, sends_ask, refuses_ask, skips_ask, ClientDoesDue, retransmits, gives_up, waits, Comes, too_late, to_client, to_server, ComesIfSent, ComesElsewhere, comes_elsewhere, skips_end, with_new_value, Plays, PlaysAll}
 use Rattle.servient_world.specs.Laws.{ValuesNeverGoBack}
 use Rattle.servient_world.proofs.Places.{all_at, at_same, at_end}
 use Rattle.servient_world.proofs.Tokens.{own_token}
 use Rattle.servient_world.proofs.Holds.{Holds, came_soon, both_true}
 use Rattle.servient_world.proofs.WatchLaws.{IsKnown, IsNoted, Watched}
 use Rattle.servient_world.proofs.Ledger.{Entry}
-use Rattle.servient_world.proofs.Exact.{Exact, IsSentBack, IsNotice, IsSaid, same_ask}
-use Rattle.servient_world.proofs.MeaningLaws.{value_taken, taken_id, notice_number}
-use Rattle.servient_world.proofs.NoticeLaws.{purpose_is, not_client_purpose}
+use Rattle.servient_world.proofs.Exact.{Exact, IsSentBack, IsNotification, IsSaid, same_ask}
+use Rattle.servient_world.proofs.MeaningLaws.{value_taken, taken_id, notification_number}
+use Rattle.servient_world.proofs.NotificationLaws.{purpose_is, not_client_purpose}
 use Rattle.servient_world.proofs.EndLaws.{grows_by, all_grow, Stands, stands_after, stands_at_start}
-use Rattle.servient_world.proofs.ValueLaws.{Valued, MayFollow, MayComeAfter, HasNumber, IsAfter, is_read, is_notice, Tops, IsNoLater, valued_sent, valued_client, valued_asked, valued_value, IsTaken, value_says, notified_says, observed_some, notice_last, tops_more}
+use Rattle.servient_world.proofs.ValueLaws.{Valued, MayFollow, MayComeAfter, HasNumber, IsAfter, is_read, is_notification, Tops, IsNoLater, valued_sent, valued_client, valued_asked, valued_value, IsTaken, value_says, notified_says, observed_some, notification_last, tops_more}
 
 -- ---- a message that is no value leaves the observation, or ends it
 
@@ -117,11 +117,11 @@ taken_reply capacity w d k q m t h few v led sent spells e after_is =
 
 -- ---- a notification brings a value
 
-taken_notice : (capacity : ℕ) (w : WorldState) (i : ℕ) (d : Datagram) (k q0 emission q : ℕ) (m : CoapMessage) (t : State) → Holds capacity w → length w.asks ≤ 65536 → Valued w → IsNotice w.asks w.acts k q0 d
-    → slice_get w.sent i ≡ Some d → d.purpose ≡ notice_for k q0 emission → w.moment - d.moment ≤ MAX_LATENCY
+taken_notification : (capacity : ℕ) (w : WorldState) (i : ℕ) (d : Datagram) (k q0 emission q : ℕ) (m : CoapMessage) (t : State) → Holds capacity w → length w.asks ≤ 65536 → Valued w → IsNotification w.asks w.acts k q0 d
+    → slice_get w.sent i ≡ Some d → d.purpose ≡ notification_for k q0 emission → w.moment - d.moment ≤ MAX_LATENCY
     → Spells m d.bytes → meaning (at_moment w.moment w.client) d.from m ≡ meant.Value q → t ≡ after (at_moment w.moment w.client) d.from m.token (meaning (at_moment w.moment w.client) d.from m)
     → IsTaken w t q k emission
-taken_notice capacity w i d k q0 emission q m t h few v n_of at purpose soon spells e after_is =
+taken_notification capacity w i d k q0 emission q m t h few v n_of at purpose soon spells e after_is =
     let one : m ≡ notification n_of.notice n_of.value = at_most_one_message m (notification n_of.notice n_of.value) d.bytes spells n_of.spells in
     let token_is : m.token ≡ n_of.request.token = ap (λ (y : CoapMessage). y.token) one ∙ n_of.token in
     let says = value_says (at_moment w.moment w.client) d.from m q e in
@@ -129,11 +129,11 @@ taken_notice capacity w i d k q0 emission q m t h few v n_of at purpose soon spe
     let seen = observed_some w.client.observation d.from m.token shown.0 in
     let number : notified (at_moment w.moment w.client) d.from m ≡ Some q0 =
     ap (notified (at_moment w.moment w.client) d.from) one
-    ∙ (notice_number (at_moment w.moment w.client) d.from n_of.notice n_of.value true
+    ∙ (notification_number (at_moment w.moment w.client) d.from n_of.notice n_of.value true
     (ap (λ (y : CoapMessage). is_for_observation w.client.observation d.from y.token) (sym one) ∙ shown.0) n_of.low
     ∙ ap (λ (y : ℕ). Some y) n_of.number) in
     let same : q0 ≡ q = same_Some q0 q (sym number ∙ says.0) in
-    let purpose_is : d.purpose ≡ notice_for k q emission = subst (λ (n : ℕ). d.purpose ≡ notice_for k n emission) same purpose in
+    let purpose_is : d.purpose ≡ notification_for k q emission = subst (λ (n : ℕ). d.purpose ≡ notification_for k n emission) same purpose in
     let token : n_of.request.token ≡ seen.0.token = sym token_is ∙ seen.2 in
     let tops = v.tops seen.0 seen.1 k n_of.request n_of.ask n_of.registers token in
     let newer : is_newer seen.0.latest w.moment q ≡ true = subst (λ (y : Option Observation). is_newer (latest_of y) w.moment q ≡ true) seen.1 says.1 in
@@ -146,8 +146,8 @@ taken_notice capacity w i d k q0 emission q m t h few v n_of at purpose soon spe
       ask = n_of.ask;
       registers_it = n_of.registers;
       token = token;
-      no_later = notice_last w i d k q emission seen.0.latest v at purpose_is soon newer tops;
-      newest = is_notice d (i, slice_get_within w.sent i d at, get_or_from_slice_get w.sent i d d at) purpose_is (all_at (λ (y : Datagram). y.moment ≤ w.moment) w.sent i d h.past at);
+      no_later = notification_last w i d k q emission seen.0.latest v at purpose_is soon newer tops;
+      newest = is_notification d (i, slice_get_within w.sent i d at, get_or_from_slice_get w.sent i d d at) purpose_is (all_at (λ (y : Datagram). y.moment ≤ w.moment) w.sent i d h.past at);
     }
 
 -- ---- something comes to the client
@@ -171,17 +171,17 @@ taken_news w t ends p mm m news.Nothing (inr is) back each v = nothing_taken w t
 -- the kinds of datagrams that come
 pub data IsFor (w : WorldState) (led : List Entry) (i : ℕ) (d : Datagram) (p : Purpose) : Type 0 where
   back_on : (k : ℕ) → p ≡ reply_to k → IsSentBack w.asks led k d → IsFor w led i d p
-  notice_of : (k q e : ℕ) → p ≡ notice_for k q e → IsNotice w.asks w.acts k q d → IsFor w led i d p
+  notification_of : (k q e : ℕ) → p ≡ notification_for k q e → IsNotification w.asks w.acts k q d → IsFor w led i d p
 
 pub is_for_end : (w : WorldState) (led : List Entry) (i : ℕ) (d : Datagram) (p : Purpose) → IsSaid w.asks w.acts led d p → d.to ≡ client_place → IsFor w led i d p
 is_for_end w led i d (copy_of k) is to = absurd (is to)
 is_for_end w led i d (reply_to k) is to = back_on k refl is
-is_for_end w led i d (notice_for k q e) is to = notice_of k q e refl is
+is_for_end w led i d (notification_for k q e) is to = notification_of k q e refl is
 is_for_end w led i d other is to = absurd (is.0 to)
 
 pub bytes_of : (w : WorldState) (led : List Entry) (i : ℕ) (d : Datagram) (p : Purpose) → IsFor w led i d p → (m : CoapMessage) × Spells m d.bytes
 bytes_of w led i d p (back_on k is sent) = (sent.reply.answer, sent.reply.spells)
-bytes_of w led i d p (notice_of k q e is n_of) = (notification n_of.notice n_of.value, n_of.spells)
+bytes_of w led i d p (notification_of k q e is n_of) = (notification n_of.notice n_of.value, n_of.spells)
 
 value_taken_of : (capacity : ℕ) (w : WorldState) (led : List Entry) (i : ℕ) (d : Datagram) (p : Purpose) (m : CoapMessage) (t : State) (ends : List AskEnd) → Holds capacity w → length w.asks ≤ 65536 → Valued w → IsFor w led i d p
     → slice_get w.sent i ≡ Some d → d.purpose ≡ p → w.moment - d.moment ≤ MAX_LATENCY
@@ -190,9 +190,9 @@ value_taken_of : (capacity : ℕ) (w : WorldState) (led : List Entry) (i : ℕ) 
 value_taken_of capacity w led i d p m t ends h few v (back_on k is sent) at purpose soon spells after_is q payload e =
     subst (λ (x : Purpose). Valued (record w { client = t; ends = ends; taken = w.taken ++ value_by x payload })) (sym is)
     (valued_value capacity w t ends q k 0 payload h few (taken_reply capacity w d k q m t h few v led sent spells e after_is) v)
-value_taken_of capacity w led i d p m t ends h few v (notice_of k q0 emission is n_of) at purpose soon spells after_is q payload e =
+value_taken_of capacity w led i d p m t ends h few v (notification_of k q0 emission is n_of) at purpose soon spells after_is q payload e =
     subst (λ (x : Purpose). Valued (record w { client = t; ends = ends; taken = w.taken ++ value_by x payload })) (sym is)
-    (valued_value capacity w t ends q k emission payload h few (taken_notice capacity w i d k q0 emission q m t h few v n_of at (purpose ∙ is) soon spells e after_is) v)
+    (valued_value capacity w t ends q k emission payload h few (taken_notification capacity w i d k q0 emission q m t h few v n_of at (purpose ∙ is) soon spells e after_is) v)
 
 valued_delivered : (capacity : ℕ) (w : WorldState) (led : List Entry) (i : ℕ) (d : Datagram) (told : Delivered) (old new : List ℕ) (t : State) (ends : List AskEnd) → Holds capacity w → length w.asks ≤ 65536 → Valued w → IsFor w led i d d.purpose
     → slice_get w.sent i ≡ Some d → w.moment - d.moment ≤ MAX_LATENCY → Delivers (at_moment w.moment w.client) d.from d.bytes told old new t
@@ -212,13 +212,13 @@ plain_other q = tt
 plain_back : (p q : Purpose) → MayComeAfter q (purpose_back p)
 plain_back (copy_of k) q = tt
 plain_back (reply_to k) q = tt
-plain_back (notice_for k n e) q = tt
+plain_back (notification_for k n e) q = tt
 plain_back other q = tt
 
 number_back : (p : Purpose) → HasNumber (purpose_back p)
 number_back (copy_of k) = tt
 number_back (reply_to k) = tt
-number_back (notice_for k n e) = tt
+number_back (notification_for k n e) = tt
 number_back other = tt
 
 valued_come : (capacity : ℕ) (w v : WorldState) (i : ℕ) (d : Datagram) → slice_get w.sent i ≡ Some d → Comes d w v → Holds capacity w → length w.asks ≤ 65536 → Exact w → Valued w → Valued v
@@ -270,13 +270,13 @@ valued_elsewhere capacity from bytes w v (skips_end is_one is) h y = subst Value
 
 follows_one : (w : WorldState) (account : Account) (n : Notice) (k place : ℕ) (request : Outstanding) → n.to ≡ client_place → slice_get w.asks k ≡ Some request → request.token ≡ token_of n
     → All (λ s. is_for n.to (token_of n) s.notice ≡ true → GoesBefore place n s) account.sent → (p : Purpose) → IsNoted w.asks account p → MayFollow k n.sequence place p
-follows_one w account n k place request to at token each (notice_for j p f) x = λ same.
+follows_one w account n k place request to at token each (notification_for j p f) x = λ same.
     let one : x.request ≡ request = at_same w.asks k x.request request (subst (λ (i : ℕ). slice_get w.asks i ≡ Some x.request) same x.ask) at in
     let for_it : is_for n.to (token_of n) x.notice.notice ≡ true
     = both_true (is_same_endpoint n.to x.notice.notice.to) (bytes_eq (token_of n) (token_of x.notice.notice))
     (subst (λ (e : Endpoint). is_same_endpoint n.to e ≡ true) (to ∙ sym x.to) (itself n.to))
     (subst (λ (t : List ℕ). bytes_eq (token_of n) t ≡ true) (sym token ∙ (ap (λ (z : Outstanding). z.token) (sym one) ∙ sym x.token)) (own_token (token_of n))) in
-    let goes = All-contains (λ (s : SentNotice). is_for n.to (token_of n) s.notice ≡ true → GoesBefore place n s) account.sent x.notice each x.has for_it in
+    let goes = All-contains (λ (s : SentNotification). is_for n.to (token_of n) s.notice ≡ true → GoesBefore place n s) account.sent x.notice each x.has for_it in
     elim goes.order [
       | inl again ↦ inl (sym x.sequence ∙ again.0, sym x.place ∙ again.1)
       | inr less ↦ inr (let a = x.sequence in let b = less.0 in omega arith, let a = x.place in let b = less.1 in omega arith)
@@ -286,21 +286,21 @@ follows_one w account n k place request to at token each (reply_to j) x = tt
 follows_one w account n k place request to at token each other x = tt
 
 -- to the client
-valued_to_client : (capacity watchers : ℕ) (w : WorldState) (t : Server) (n : Notice) → Holds capacity w → length w.asks ≤ 65536 → w.ids ≤ 65536 → Watched watchers w → SendsNext w.moment (Some n) w.server t
-    → n.to ≡ client_place → Valued w → Valued (with_notice (Some n) (record w { server = t }))
-valued_to_client capacity watchers w t n h few low x sends to y =
-    let goes : IsToRegistered x.account n = notices_go_to_the_registered watchers x.account w.server.watchers w.moment w.server.next_id n sends.watchers.list x.did x.id sends.notifies in
+valued_to_client : (capacity observers : ℕ) (w : WorldState) (t : Server) (n : Notice) → Holds capacity w → length w.asks ≤ 65536 → w.ids ≤ 65536 → Watched observers w → SendsNext w.moment (Some n) w.server t
+    → n.to ≡ client_place → Valued w → Valued (with_notification (Some n) (record w { server = t }))
+valued_to_client capacity observers w t n h few low x sends to y =
+    let goes : IsToRegistered x.account n = notifications_go_to_the_registered observers x.account w.server.observers w.moment w.server.next_id n sends.observers.list x.did x.id sends.notifies in
     let known = All-contains (IsKnown w.asks w.acts) x.account.registered (record { from = n.to; token = token_of n; target = n.target }) x.registered goes.registered in
     let is = known.1 to in
     let fresh = x.fresh in
     let once : registrations_of n.to (token_of n) x.account.registered ≤ 1
     = subst (λ (e : Endpoint). registrations_of e (token_of n) x.account.registered ≤ 1) (sym to) (x.once (token_of n)) in
-    let order : IsInOrder x.account n = notices_are_in_order watchers x.account w.server.watchers w.moment w.server.next_id n sends.watchers.list x.did sends.notifies once (omega arith) in
+    let order : IsInOrder x.account n = notifications_are_in_order observers x.account w.server.observers w.moment w.server.next_id n sends.observers.list x.did sends.notifies once (omega arith) in
     let place : ℕ = last_place n.target (targets_of w.emitted) in
     let each : All (λ s. is_for n.to (token_of n) s.notice ≡ true → GoesBefore (last_place n.target (targets_of w.emitted)) n s) x.account.sent
     = subst (λ (l : List ℕ). All (λ s. is_for n.to (token_of n) s.notice ≡ true → GoesBefore (last_place n.target l) n s) x.account.sent) x.values order.after in
     let purpose = (purpose_is capacity w n h few to is).purpose in
-    let d : Datagram = notice_sent w.moment w.asks w.emitted n in
+    let d : Datagram = notification_sent w.moment w.asks w.emitted n in
     record {
       order = all_pairs_push IsAfter w.sent d y.order (λ i c within. record {
         moment = h.past i c within;
@@ -317,13 +317,13 @@ valued_to_client capacity watchers w t n h few low x sends to y =
     small true count up ids = omega arith
     small false count up ids = omega arith
 
-valued_noticed : (capacity watchers : ℕ) (w : WorldState) (t : Server) (o : Option Notice) → Holds capacity w → length w.asks ≤ 65536 → w.ids ≤ 65536 → Watched watchers w → SendsNext w.moment o w.server t
-    → Valued w → Valued (with_notice o (record w { server = t }))
-valued_noticed capacity watchers w t None h few low x sends y = valued_client w (record w { server = t }) refl refl refl (λ o e. e) y
-valued_noticed capacity watchers w t (Some n) h few low x sends y = elim (cases_Bool (is_same_endpoint n.to client_place)) [
-  | inl here ↦ valued_to_client capacity watchers w t n h few low x sends (same_endpoint n.to client_place here) y
+valued_noticed : (capacity observers : ℕ) (w : WorldState) (t : Server) (o : Option Notice) → Holds capacity w → length w.asks ≤ 65536 → w.ids ≤ 65536 → Watched observers w → SendsNext w.moment o w.server t
+    → Valued w → Valued (with_notification o (record w { server = t }))
+valued_noticed capacity observers w t None h few low x sends y = valued_client w (record w { server = t }) refl refl refl (λ o e. e) y
+valued_noticed capacity observers w t (Some n) h few low x sends y = elim (cases_Bool (is_same_endpoint n.to client_place)) [
+  | inl here ↦ valued_to_client capacity observers w t n h few low x sends (same_endpoint n.to client_place here) y
   | inr elsewhere_is ↦
-      let d : Datagram = notice_sent w.moment w.asks w.emitted n in
+      let d : Datagram = notification_sent w.moment w.asks w.emitted n in
       let purpose = not_client_purpose n w.asks w.emitted elsewhere_is in
       record {
         order = all_pairs_push IsAfter w.sent d y.order (λ i c within. record {
@@ -339,18 +339,18 @@ valued_noticed capacity watchers w t (Some n) h few low x sends y = elim (cases_
 
 -- ---- all moves
 
-valued_after : (capacity watchers : ℕ) (m : WorldMove) (w v : WorldState) → Plays m w v → Stands capacity watchers w → length w.asks ≤ 65536 → length v.asks ≤ 65536 → w.ids ≤ 65536 → Valued w → Valued v
-valued_after capacity watchers (ask a) w v plays s few few_after low y = valued_ask capacity a w v plays s.holds few_after y
-valued_after capacity watchers due w v plays s few few_after low y = valued_due capacity w v plays s.holds y
-valued_after capacity watchers (deliver i) w v plays s few few_after low y = valued_deliver capacity w v i (slice_get w.sent i) refl plays s.holds few s.exact y
-valued_after capacity watchers (pass n) w v plays s few few_after low y = subst Valued (sym plays) (valued_client w (record w { moment = w.moment + n }) refl refl refl (λ o e. e) y)
-valued_after capacity watchers (elsewhere from bytes) w v plays s few few_after low y = valued_elsewhere capacity from bytes w v plays s.holds y
-valued_after capacity watchers (emit e) w v plays s few few_after low y = subst Valued (sym plays) (valued_client w (with_new_value e w) refl refl refl (λ o e. e) y)
-valued_after capacity watchers notify w v plays s few few_after low y =
-    subst Valued (sym plays.next) (valued_noticed capacity watchers w plays.after plays.notice s.holds few low s.watched plays.sends y)
+valued_after : (capacity observers : ℕ) (m : WorldMove) (w v : WorldState) → Plays m w v → Stands capacity observers w → length w.asks ≤ 65536 → length v.asks ≤ 65536 → w.ids ≤ 65536 → Valued w → Valued v
+valued_after capacity observers (ask a) w v plays s few few_after low y = valued_ask capacity a w v plays s.holds few_after y
+valued_after capacity observers due w v plays s few few_after low y = valued_due capacity w v plays s.holds y
+valued_after capacity observers (deliver i) w v plays s few few_after low y = valued_deliver capacity w v i (slice_get w.sent i) refl plays s.holds few s.exact y
+valued_after capacity observers (pass n) w v plays s few few_after low y = subst Valued (sym plays) (valued_client w (record w { moment = w.moment + n }) refl refl refl (λ o e. e) y)
+valued_after capacity observers (elsewhere from bytes) w v plays s few few_after low y = valued_elsewhere capacity from bytes w v plays s.holds y
+valued_after capacity observers (emit e) w v plays s few few_after low y = subst Valued (sym plays) (valued_client w (with_new_value e w) refl refl refl (λ o e. e) y)
+valued_after capacity observers notify w v plays s few few_after low y =
+    subst Valued (sym plays.next) (valued_noticed capacity observers w plays.after plays.notice s.holds few low s.watched plays.sends y)
 
-valued_at_start : (first_id exchanges watchers : ℕ) (w : WorldState) → IsStart first_id exchanges watchers w → Valued w
-valued_at_start first_id exchanges watchers w s = record {
+valued_at_start : (first_id exchanges observers : ℕ) (w : WorldState) → IsStart first_id exchanges observers w → Valued w
+valued_at_start first_id exchanges observers w s = record {
   order = subst (AllPairs IsAfter) (sym s.sent) (λ i j d before within. absurd (omega arith));
   numbers = subst (All (λ d. HasNumber d.purpose)) (sym s.sent) (All-nil (λ (d : Datagram). HasNumber d.purpose));
   asked = subst (All (λ x. x.ask < length w.asks)) (sym s.taken) (All-nil (λ (x : Value). x.ask < length w.asks));
@@ -358,18 +358,18 @@ valued_at_start first_id exchanges watchers w s = record {
   rising = subst (AllPairs IsNoLater) (sym s.taken) (λ i j d before within. absurd (omega arith));
 }
 
-valued_after_all : (capacity watchers : ℕ) (moves : List WorldMove) (w v : WorldState) → PlaysAll moves w v → length v.asks ≤ 65536 → v.ids ≤ 65536 → Stands capacity watchers w → Valued w → Valued v
-valued_after_all capacity watchers [] w v plays few low s y = subst Valued (sym plays) y
-valued_after_all capacity watchers (m ∷ moves) w v plays few low s y =
+valued_after_all : (capacity observers : ℕ) (moves : List WorldMove) (w v : WorldState) → PlaysAll moves w v → length v.asks ≤ 65536 → v.ids ≤ 65536 → Stands capacity observers w → Valued w → Valued v
+valued_after_all capacity observers [] w v plays few low s y = subst Valued (sym plays) y
+valued_after_all capacity observers (m ∷ moves) w v plays few low s y =
     let one = grows_by m w plays.0 plays.1 in
     let more = all_grow moves plays.0 v plays.2 in
     let asks_now = one.asks in
     let asks_later = more.asks in
     let ids_now = one.ids in
     let ids_later = more.ids in
-    valued_after_all capacity watchers moves plays.0 v plays.2 few low (stands_after capacity watchers m w plays.0 plays.1 (omega arith) s)
-    (valued_after capacity watchers m w plays.0 plays.1 s (omega arith) (omega arith) (omega arith) y)
+    valued_after_all capacity observers moves plays.0 v plays.2 few low (stands_after capacity observers m w plays.0 plays.1 (omega arith) s)
+    (valued_after capacity observers m w plays.0 plays.1 s (omega arith) (omega arith) (omega arith) y)
 
 pub values_never_go_back : ValuesNeverGoBack
-values_never_go_back first_id exchanges watchers moves w v start plays few low =
-    (valued_after_all exchanges watchers moves w v plays few low (stands_at_start first_id exchanges watchers w start) (valued_at_start first_id exchanges watchers w start)).rising
+values_never_go_back first_id exchanges observers moves w v start plays few low =
+    (valued_after_all exchanges observers moves w v plays few low (stands_at_start first_id exchanges observers w start) (valued_at_start first_id exchanges observers w start)).rising

@@ -20,7 +20,7 @@ use Rattle.coap_client.specs.Laws.{Did as ClientDid}
 use Rattle.coap_client.specs.Answers.{takes as is_taken, is_for_observation, meaning, meaning_taken, meaning_else, notified, sequence_of, is_newer, is_newer_than, latest_of}
 use Rattle.coap_client.proofs.TokenLaws.{registrations_differ}
 use Rattle.servient_world.specs.declared.network.TheConstants.{MAX_LATENCY}
-use Rattle.servient_world.specs.World.{Purpose, copy_of, reply_to, notice_for, other, Datagram, WorldState, Value, with_sent}
+use Rattle.servient_world.specs.World.{Purpose, copy_of, reply_to, notification_for, other, Datagram, WorldState, Value, with_sent}
 use Rattle.servient_world.proofs.Places.{at_last}
 use Rattle.servient_world.proofs.Holds.{Holds}
 use Rattle.servient_world.proofs.WatchLaws.{same_registration}
@@ -30,14 +30,14 @@ use Rattle.servient_world.proofs.MeaningLaws.{value_taken, at_true, observation_
 
 -- of two notifications for one ask the later one is the earlier again, or has a greater number and no earlier value
 abbrev pub MayFollow : ℕ → ℕ → ℕ → Purpose → Type 0
-MayFollow k q e (notice_for j p f) = j ≡ k → ((p ≡ q) × (f ≡ e)) ⊎ ((p < q) × (f ≤ e))
+MayFollow k q e (notification_for j p f) = j ≡ k → ((p ≡ q) × (f ≡ e)) ⊎ ((p < q) × (f ≤ e))
 MayFollow k q e (copy_of j) = Unit {0}
 MayFollow k q e (reply_to j) = Unit {0}
 MayFollow k q e other = Unit {0}
 
 -- the purposes of which one may come after another
 abbrev pub MayComeAfter : Purpose → Purpose → Type 0
-MayComeAfter p (notice_for k q e) = MayFollow k q e p
+MayComeAfter p (notification_for k q e) = MayFollow k q e p
 MayComeAfter p (copy_of k) = Unit {0}
 MayComeAfter p (reply_to k) = Unit {0}
 MayComeAfter p other = Unit {0}
@@ -47,7 +47,7 @@ pub record IsAfter (c d : Datagram) : Type 0 where
   pub order : MayComeAfter c.purpose d.purpose
 
 abbrev pub HasNumber : Purpose → Type 0
-HasNumber (notice_for k q e) = (0 < q) × (q < 2 ^ 23)
+HasNumber (notification_for k q e) = (0 < q) × (q < 2 ^ 23)
 HasNumber (copy_of k) = Unit {0}
 HasNumber (reply_to k) = Unit {0}
 HasNumber other = Unit {0}
@@ -55,7 +55,7 @@ HasNumber other = Unit {0}
 -- the latest value of an ask is the one that was read, or a notification's
 pub data IsLatest (sent : List Datagram) (k : ℕ) (l : Latest) (top : ℕ) : Type 0 where
   is_read : l.sequence ≡ 0 → top ≡ 0 → IsLatest sent k l top
-  is_notice : (d : Datagram) → Contains sent d → d.purpose ≡ notice_for k l.sequence top → d.moment ≤ l.moment → IsLatest sent k l top
+  is_notification : (d : Datagram) → Contains sent d → d.purpose ≡ notification_for k l.sequence top → d.moment ≤ l.moment → IsLatest sent k l top
 
 abbrev pub Tops : List Datagram → List Value → ℕ → Option Latest → Type 0
 Tops sent taken k None = All (λ x. x.ask ≢ k) taken
@@ -77,7 +77,7 @@ pub record Valued (w : WorldState) : Type 0 where
 
 latest_more : (sent more : List Datagram) (k : ℕ) (l : Latest) (top : ℕ) → IsLatest sent k l top → IsLatest (sent ++ more) k l top
 latest_more sent more k l top (is_read zero_it none) = is_read zero_it none
-latest_more sent more k l top (is_notice d has purpose moment) = is_notice d (Contains-append_left sent more d has) purpose moment
+latest_more sent more k l top (is_notification d has purpose moment) = is_notification d (Contains-append_left sent more d has) purpose moment
 
 pub tops_more : (sent more : List Datagram) (taken : List Value) (k : ℕ) (x : Option Latest) → Tops sent taken k x → Tops (sent ++ more) taken k x
 tops_more sent more taken k None t = t
@@ -254,13 +254,13 @@ valued_value capacity w t ends q k place payload h few it v =
 -- ---- a notification isn't before the values that were taken
 
 abbrev sequence_in : Purpose → ℕ
-sequence_in (notice_for k q e) = q
+sequence_in (notification_for k q e) = q
 sequence_in (copy_of k) = 0
 sequence_in (reply_to k) = 0
 sequence_in other = 0
 
 abbrev emission_in : Purpose → ℕ
-emission_in (notice_for k q e) = e
+emission_in (notification_for k q e) = e
 emission_in (copy_of k) = 0
 emission_in (reply_to k) = 0
 emission_in other = 0
@@ -269,17 +269,17 @@ not_smaller : (l : Latest) (now sequence : ℕ) → is_newer_than l now sequence
 not_smaller l now sequence newer small below soon = grind (arith, nat_tests)
 
 -- of two notifications of one ask, at their places
-ordered : (sent : List Datagram) (i j : ℕ) (d c : Datagram) (k q e p f : ℕ) → AllPairs IsAfter sent → i < j → j < length sent → get_or sent i d ≡ d → get_or sent j d ≡ c → d.purpose ≡ notice_for k q e → c.purpose ≡ notice_for k p f
+ordered : (sent : List Datagram) (i j : ℕ) (d c : Datagram) (k q e p f : ℕ) → AllPairs IsAfter sent → i < j → j < length sent → get_or sent i d ≡ d → get_or sent j d ≡ c → d.purpose ≡ notification_for k q e → c.purpose ≡ notification_for k p f
     → (d.moment ≤ c.moment) × (((q ≡ p) × (e ≡ f)) ⊎ ((q < p) × (e ≤ f)))
 ordered sent i j d c k q e p f order before within at_i at_j is_d is_c =
     let after_it : IsAfter d c = subst (λ (x : Datagram). IsAfter x c) at_i (subst (λ (y : Datagram). IsAfter (get_or sent i d) y) at_j (order i j d before within)) in
-    let may : MayComeAfter (notice_for k q e) (notice_for k p f) = subst (λ (x : Purpose). MayComeAfter x (notice_for k p f)) is_d (subst (λ (y : Purpose). MayComeAfter d.purpose y) is_c after_it.order) in
+    let may : MayComeAfter (notification_for k q e) (notification_for k p f) = subst (λ (x : Purpose). MayComeAfter x (notification_for k p f)) is_d (subst (λ (y : Purpose). MayComeAfter d.purpose y) is_c after_it.order) in
     (after_it.moment, may refl)
 
-no_earlier : (w : WorldState) (i : ℕ) (d : Datagram) (k q e : ℕ) (l : Latest) (top : ℕ) → Valued w → slice_get w.sent i ≡ Some d → d.purpose ≡ notice_for k q e → w.moment - d.moment ≤ MAX_LATENCY
+no_earlier : (w : WorldState) (i : ℕ) (d : Datagram) (k q e : ℕ) (l : Latest) (top : ℕ) → Valued w → slice_get w.sent i ≡ Some d → d.purpose ≡ notification_for k q e → w.moment - d.moment ≤ MAX_LATENCY
     → is_newer_than l w.moment q ≡ true → IsLatest w.sent k l top → top ≤ e
 no_earlier w i d k q e l top v at is soon newer (is_read zero_it none) = omega arith
-no_earlier w i d k q e l top v at is soon newer (is_notice c has is_c moment) =
+no_earlier w i d k q e l top v at is soon newer (is_notification c has is_c moment) =
     let in_i = slice_get_within w.sent i d at in
     let at_i : get_or w.sent i d ≡ d = get_or_from_slice_get w.sent i d d at in
     let at_i_c : get_or w.sent i c ≡ d = get_or_from_slice_get w.sent i d c at in
@@ -307,9 +307,9 @@ no_earlier w i d k q e l top v at is soon newer (is_notice c has is_c moment) =
       ]
     ]
 
-pub notice_last : (w : WorldState) (i : ℕ) (d : Datagram) (k q e : ℕ) (x : Option Latest) → Valued w → slice_get w.sent i ≡ Some d → d.purpose ≡ notice_for k q e → w.moment - d.moment ≤ MAX_LATENCY
+pub notification_last : (w : WorldState) (i : ℕ) (d : Datagram) (k q e : ℕ) (x : Option Latest) → Valued w → slice_get w.sent i ≡ Some d → d.purpose ≡ notification_for k q e → w.moment - d.moment ≤ MAX_LATENCY
     → is_newer x w.moment q ≡ true → Tops w.sent w.taken k x → All (λ y. y.ask ≡ k → y.place ≤ e) w.taken
-notice_last w i d k q e None v at is soon newer tops = All-weaker (λ (y : Value). y.ask ≢ k) (λ (y : Value). y.ask ≡ k → y.place ≤ e) (λ y no_one same. absurd (no_one same)) w.taken tops
-notice_last w i d k q e (Some l) v at is soon newer tops =
+notification_last w i d k q e None v at is soon newer tops = All-weaker (λ (y : Value). y.ask ≢ k) (λ (y : Value). y.ask ≡ k → y.place ≤ e) (λ y no_one same. absurd (no_one same)) w.taken tops
+notification_last w i d k q e (Some l) v at is soon newer tops =
     let more : tops.0 ≤ e = no_earlier w i d k q e l tops.0 v at is soon newer tops.1 in
     All-weaker (λ (y : Value). y.ask ≡ k → y.place ≤ tops.0) (λ (y : Value). y.ask ≡ k → y.place ≤ e) (λ y h same. let a = h same in omega arith) w.taken tops.2

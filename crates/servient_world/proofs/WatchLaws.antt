@@ -23,7 +23,7 @@ use Rattle.coap_client.proofs.TokenLaws.{registrations_differ}
 use Rattle.coap_observe.specs.declared.notice.Registered.{Registered}
 use Rattle.coap_observe.specs.declared.notice.Registered.TheVariants.{New, Replaced, Full}
 use Rattle.coap_observe.specs.Watching.{Watching, Registers}
-use Rattle.coap_observe.specs.Accounts.{Registration, SentNotice, Account, with_registration, Did as AccountDid, registered as was_registered, cancelled as was_cancelled, acknowledged as was_acknowledged, rejected as was_rejected, token_of, one_if, registrations_of, fresh_count}
+use Rattle.coap_observe.specs.Accounts.{Registration, SentNotification, Account, with_registration, Did as AccountDid, registered as was_registered, cancelled as was_cancelled, acknowledged as was_acknowledged, rejected as was_rejected, token_of, one_if, registrations_of, fresh_count}
 use Rattle.coap_bind.specs.declared.observing.Observing.{Observing}
 use Rattle.coap_bind.specs.declared.observing.Observing.TheVariants as observing
 use Rattle.coap_bind.specs.declared.observing.Effect.{Effect}
@@ -32,9 +32,9 @@ use Rattle.coap_bind.specs.declared.server.Server.{Server}
 use Rattle.coap_bind.specs.Observing.{observing_at, observing_of, may_notify, is_memory, registering, effect_of, Watches, leaves, cancels, registers}
 use Rattle.coap_bind.specs.Writing.{Reply}
 use Rattle.coap_bind.specs.Server.{observing_in, told_by_empty}
-use Rattle.coap_bind.specs.Links.{watchers_with_links}
+use Rattle.coap_bind.specs.Links.{observers_with_links}
 use Rattle.coap_bind.specs.Treating.{Acted, IsReplied, faulty, memory, of_blocks, of_links, no_method, acted, acted_on_whole, IsTold, IsTreated, no_request, is_duplicate, finds_full, is_answered, is_ignored}
-use Rattle.servient_world.specs.World.{client_place, server_place, Purpose, copy_of, reply_to, notice_for, other, Datagram, Act, WorldState, targets_of}
+use Rattle.servient_world.specs.World.{client_place, server_place, Purpose, copy_of, reply_to, notification_for, other, Datagram, Act, WorldState, targets_of}
 use Rattle.servient_world.proofs.Places.{at_more}
 use Rattle.servient_world.proofs.Tokens.{same_token}
 use Rattle.servient_world.proofs.Holds.{Holds}
@@ -61,7 +61,7 @@ IsKnown asks acts r = (r.from ≡ server_place → ⊥) × (r.from ≡ client_pl
 pub record IsInAccount (asks : List Outstanding) (account : Account) (k q e : ℕ) : Type 0 where
   pub request : Outstanding
   pub ask : slice_get asks k ≡ Some request
-  pub notice : SentNotice
+  pub notice : SentNotification
   pub has : Contains account.sent notice
   pub to : notice.notice.to ≡ client_place
   pub token : token_of notice.notice ≡ request.token
@@ -69,14 +69,14 @@ pub record IsInAccount (asks : List Outstanding) (account : Account) (k q e : �
   pub place : notice.place ≡ e
 
 abbrev pub IsNoted : List Outstanding → Account → Purpose → Type 0
-IsNoted asks account (notice_for k q e) = IsInAccount asks account k q e
+IsNoted asks account (notification_for k q e) = IsInAccount asks account k q e
 IsNoted asks account (copy_of k) = Unit {0}
 IsNoted asks account (reply_to k) = Unit {0}
 IsNoted asks account other = Unit {0}
 
-pub record Watched (watchers : ℕ) (w : WorldState) : Type 0 where
+pub record Watched (observers : ℕ) (w : WorldState) : Type 0 where
   pub account : Account
-  pub did : AccountDid watchers account w.server.watchers
+  pub did : AccountDid observers account w.server.observers
   pub values : account.emitted ≡ targets_of w.emitted
   pub registered : All (IsKnown w.asks w.acts) account.registered
   pub once : (token : List ℕ) → registrations_of client_place token account.registered ≤ 1
@@ -115,7 +115,7 @@ pub asks_more : (asks other_asks : List Outstanding) (acts : List Act) (rs : Lis
 asks_more asks other_asks acts rs all = subst (λ (l : List Act). All (IsKnown (asks ++ other_asks) l) rs) (append-nil acts) (all_registered_more asks other_asks acts [] rs all)
 
 noted_more : (asks other_asks : List Outstanding) (account : Account) (p : Purpose) → IsNoted asks account p → IsNoted (asks ++ other_asks) account p
-noted_more asks other_asks account (notice_for k q e) x = record {
+noted_more asks other_asks account (notification_for k q e) x = record {
   request = x.request;
   ask = at_more asks other_asks k x.request x.ask;
   notice = x.notice;
@@ -136,8 +136,8 @@ all_noted_more asks other_asks account ds all =
     (λ d is. noted_more asks other_asks account d.purpose is) ds all
 
 -- a notification that was sent before is in the account still
-noted_account : (asks : List Outstanding) (a b : Account) (p : Purpose) → ((s : SentNotice) → Contains a.sent s → Contains b.sent s) → IsNoted asks a p → IsNoted asks b p
-noted_account asks a b (notice_for k q e) more x = record {
+noted_account : (asks : List Outstanding) (a b : Account) (p : Purpose) → ((s : SentNotification) → Contains a.sent s → Contains b.sent s) → IsNoted asks a p → IsNoted asks b p
+noted_account asks a b (notification_for k q e) more x = record {
   request = x.request;
   ask = x.ask;
   notice = x.notice;
@@ -151,7 +151,7 @@ noted_account asks a b (copy_of k) more x = tt
 noted_account asks a b (reply_to k) more x = tt
 noted_account asks a b other more x = tt
 
-pub all_noted_account : (asks : List Outstanding) (a b : Account) (ds : List Datagram) → ((s : SentNotice) → Contains a.sent s → Contains b.sent s)
+pub all_noted_account : (asks : List Outstanding) (a b : Account) (ds : List Datagram) → ((s : SentNotification) → Contains a.sent s → Contains b.sent s)
     → All (λ d. IsNoted asks a d.purpose) ds → All (λ d. IsNoted asks b d.purpose) ds
 all_noted_account asks a b ds more all =
     All-weaker (λ (d : Datagram). IsNoted asks a d.purpose) (λ (d : Datagram). IsNoted asks b d.purpose) (λ d is. noted_account asks a b d.purpose more is) ds all
@@ -200,10 +200,10 @@ not_acted_before acts x y differ has same =
     differ has.0 (length acts) x within (omega arith) (ap (λ (z : Act). z.ask) first ∙ (same ∙ sym (ap (λ (z : Act). z.ask) last)))
 
 -- where an act is made for a registering ask its token didn't register before
-pub none_registered : (capacity watchers : ℕ) (w : WorldState) (k : ℕ) (request : Outstanding) (made : Act) → Holds capacity w → length w.asks ≤ 65536 → (x : Watched watchers w)
+pub none_registered : (capacity observers : ℕ) (w : WorldState) (k : ℕ) (request : Outstanding) (made : Act) → Holds capacity w → length w.asks ≤ 65536 → (x : Watched observers w)
     → slice_get w.asks k ≡ Some request → request.registers ≡ true → made.ask ≡ k → AllPairs (λ x y. x.ask ≢ y.ask) (w.acts ++ made ∷ [])
     → registrations_of client_place request.token x.account.registered ≡ 0
-none_registered capacity watchers w k request made h few x at reg for_it differ =
+none_registered capacity observers w k request made h few x at reg for_it differ =
     elim (cases_lt 0 (registrations_of client_place request.token x.account.registered)) [
       | inl some ↦
           let r = registration_there client_place request.token x.account.registered some in
@@ -269,39 +269,39 @@ pub record IsByRequest (bytes : List ℕ) (act : Option Acted) (r : Registration
   pub observes : number_under observe message.options ≡ Some 0
 
 -- The account after a datagram: nothing else was done, or there is one more registration.
-pub record GoesOn (watchers : ℕ) (from : Endpoint) (bytes : List ℕ) (act : Option Acted) (a : Account) (t : Watching) : Type 0 where
+pub record GoesOn (observers : ℕ) (from : Endpoint) (bytes : List ℕ) (act : Option Acted) (a : Account) (t : Watching) : Type 0 where
   pub account : Account
-  pub did : AccountDid watchers account t
+  pub did : AccountDid observers account t
   pub emitted : account.emitted ≡ a.emitted
   pub sent : account.sent ≡ a.sent
   pub registered : (account.registered ≡ a.registered)
       ⊎ ((r : Registration) × (account.registered ≡ a.registered ++ r ∷ []) × (r.from ≡ from) × IsByRequest bytes act r)
 
-same_account : (watchers : ℕ) (from : Endpoint) (bytes : List ℕ) (act : Option Acted) (a : Account) (t : Watching) → AccountDid watchers a t → GoesOn watchers from bytes act a t
-same_account watchers from bytes act a t did = record { account = a; did = did; emitted = refl; sent = refl; registered = inl refl }
+same_account : (observers : ℕ) (from : Endpoint) (bytes : List ℕ) (act : Option Acted) (a : Account) (t : Watching) → AccountDid observers a t → GoesOn observers from bytes act a t
+same_account observers from bytes act a t did = record { account = a; did = did; emitted = refl; sent = refl; registered = inl refl }
 
-kept_account : (watchers : ℕ) (from : Endpoint) (bytes : List ℕ) (act : Option Acted) (a : Account) (s t : Watching) → t ≡ s → AccountDid watchers a s → GoesOn watchers from bytes act a t
-kept_account watchers from bytes act a s t same did = same_account watchers from bytes act a t (subst (AccountDid watchers a) (sym same) did)
+kept_account : (observers : ℕ) (from : Endpoint) (bytes : List ℕ) (act : Option Acted) (a : Account) (s t : Watching) → t ≡ s → AccountDid observers a s → GoesOn observers from bytes act a t
+kept_account observers from bytes act a s t same did = same_account observers from bytes act a t (subst (AccountDid observers a) (sym same) did)
 
-told_account : (watchers : ℕ) (from : Endpoint) (a : Account) (s : Watching) (kind : Type4) (id : ℕ) → AccountDid watchers a s → AccountDid watchers a (told_by_empty from kind id s)
-told_account watchers from a s Con id did = did
-told_account watchers from a s Non id did = did
-told_account watchers from a s Ack id did = was_acknowledged a s (told_by_empty from Ack id s) from id did refl
-told_account watchers from a s Rst id did = was_rejected a s (told_by_empty from Rst id s) from id did refl
+told_account : (observers : ℕ) (from : Endpoint) (a : Account) (s : Watching) (kind : Type4) (id : ℕ) → AccountDid observers a s → AccountDid observers a (told_by_empty from kind id s)
+told_account observers from a s Con id did = did
+told_account observers from a s Non id did = did
+told_account observers from a s Ack id did = was_acknowledged a s (told_by_empty from Ack id s) from id did refl
+told_account observers from a s Rst id did = was_rejected a s (told_by_empty from Rst id s) from id did refl
 
-told_at : (watchers : ℕ) (from : Endpoint) (a : Account) (s : Watching) (kind : Type4) (id : ℕ) (b : Bool) → AccountDid watchers a s → AccountDid watchers a (cond b (told_by_empty from kind id s) s)
-told_at watchers from a s kind id true did = told_account watchers from a s kind id did
-told_at watchers from a s kind id false did = did
+told_at : (observers : ℕ) (from : Endpoint) (a : Account) (s : Watching) (kind : Type4) (id : ℕ) (b : Bool) → AccountDid observers a s → AccountDid observers a (cond b (told_by_empty from kind id s) s)
+told_at observers from a s kind id true did = told_account observers from a s kind id did
+told_at observers from a s kind id false did = did
 
-account_told : (watchers : ℕ) (from : Endpoint) (bytes : List ℕ) (a : Account) (s t : Watching) → IsTold from bytes s t → AccountDid watchers a s → AccountDid watchers a t
-account_told watchers from bytes a s t (inl same) did = subst (AccountDid watchers a) (sym same) did
-account_told watchers from bytes a s t (inr told) did =
-    subst (AccountDid watchers a) (sym told.2) (told_at watchers from a s told.0.kind told.0.id (told.0.code == EMPTY) did)
+account_told : (observers : ℕ) (from : Endpoint) (bytes : List ℕ) (a : Account) (s t : Watching) → IsTold from bytes s t → AccountDid observers a s → AccountDid observers a t
+account_told observers from bytes a s t (inl same) did = subst (AccountDid observers a) (sym same) did
+account_told observers from bytes a s t (inr told) did =
+    subst (AccountDid observers a) (sym told.2) (told_at observers from a s told.0.kind told.0.id (told.0.code == EMPTY) did)
 
 -- the account after a registration
-account_registered : (watchers : ℕ) (from : Endpoint) (bytes : List ℕ) (act : Option Acted) (a : Account) (s t : Watching) (token : List ℕ) (target : ℕ) (o : Registered) → length token ≤ 8
-    → Registers from token target s o t → IsByRequest bytes act (record { from = from; token = token; target = target }) → AccountDid watchers a s → GoesOn watchers from bytes act a t
-account_registered watchers from bytes act a s t token target (New n) short reg by did =
+account_registered : (observers : ℕ) (from : Endpoint) (bytes : List ℕ) (act : Option Acted) (a : Account) (s t : Watching) (token : List ℕ) (target : ℕ) (o : Registered) → length token ≤ 8
+    → Registers from token target s o t → IsByRequest bytes act (record { from = from; token = token; target = target }) → AccountDid observers a s → GoesOn observers from bytes act a t
+account_registered observers from bytes act a s t token target (New n) short reg by did =
     let r : Registration = record { from = from; token = token; target = target } in
     record {
       account = with_registration (New n) r a;
@@ -310,7 +310,7 @@ account_registered watchers from bytes act a s t token target (New n) short reg 
       sent = refl;
       registered = inr (r, refl, refl, by);
     }
-account_registered watchers from bytes act a s t token target (Replaced n) short reg by did =
+account_registered observers from bytes act a s t token target (Replaced n) short reg by did =
     let r : Registration = record { from = from; token = token; target = target } in
     record {
       account = with_registration (Replaced n) r a;
@@ -319,18 +319,18 @@ account_registered watchers from bytes act a s t token target (Replaced n) short
       sent = refl;
       registered = inr (r, refl, refl, by);
     }
-account_registered watchers from bytes act a s t token target Full short reg by did =
-    same_account watchers from bytes act a t (was_registered a s t from token target Full did short reg)
+account_registered observers from bytes act a s t token target Full short reg by did =
+    same_account observers from bytes act a t (was_registered a s t from token target Full did short reg)
 
-account_watched : (watchers : ℕ) (from : Endpoint) (bytes : List ℕ) (act : Option Acted) (a : Account) (s t : Watching) (m : CoapMessage) (made : Acted) (observe_said : Option ℕ)
+account_watched : (observers : ℕ) (from : Endpoint) (bytes : List ℕ) (act : Option Acted) (a : Account) (s t : Watching) (m : CoapMessage) (made : Acted) (observe_said : Option ℕ)
     → Spells m bytes → act ≡ Some made → Watches (effect_of (observing_of m.code (what_is_asked m).observe) made.outcome made.target) from m.token s observe_said t
-    → AccountDid watchers a s → GoesOn watchers from bytes act a t
-account_watched watchers from bytes act a s t m made observe_said spells is (leaves does none same) did = kept_account watchers from bytes act a s t same did
-account_watched watchers from bytes act a s t m made observe_said spells is (cancels does none same) did =
-    same_account watchers from bytes act a t (was_cancelled a s t from m.token did same)
-account_watched watchers from bytes act a s t m made observe_said spells is (registers target o does reg said) did =
+    → AccountDid observers a s → GoesOn observers from bytes act a t
+account_watched observers from bytes act a s t m made observe_said spells is (leaves does none same) did = kept_account observers from bytes act a s t same did
+account_watched observers from bytes act a s t m made observe_said spells is (cancels does none same) did =
+    same_account observers from bytes act a t (was_cancelled a s t from m.token did same)
+account_watched observers from bytes act a s t m made observe_said spells is (registers target o does reg said) did =
     let says = effect_says (observing_of m.code (what_is_asked m).observe) made.outcome made.target target does in
-    account_registered watchers from bytes act a s t m.token target o spells.bounds.token reg (record {
+    account_registered observers from bytes act a s t m.token target o spells.bounds.token reg (record {
       message = m;
       spells = spells;
       made = made;
@@ -341,30 +341,30 @@ account_watched watchers from bytes act a s t m made observe_said spells is (reg
     }) did
 
 -- the links were given
-account_links : (watchers : ℕ) (from : Endpoint) (bytes : List ℕ) (act : Option Acted) (a : Account) (s t : Watching) (token : List ℕ) (wants : Observing) → t ≡ watchers_with_links wants from token s
-    → AccountDid watchers a s → GoesOn watchers from bytes act a t
-account_links watchers from bytes act a s t token observing.Unchanged same did = kept_account watchers from bytes act a s t same did
-account_links watchers from bytes act a s t token observing.Registers same did = kept_account watchers from bytes act a s t same did
-account_links watchers from bytes act a s t token observing.Deregisters same did = same_account watchers from bytes act a t (was_cancelled a s t from token did same)
+account_links : (observers : ℕ) (from : Endpoint) (bytes : List ℕ) (act : Option Acted) (a : Account) (s t : Watching) (token : List ℕ) (wants : Observing) → t ≡ observers_with_links wants from token s
+    → AccountDid observers a s → GoesOn observers from bytes act a t
+account_links observers from bytes act a s t token observing.Unchanged same did = kept_account observers from bytes act a s t same did
+account_links observers from bytes act a s t token observing.Registers same did = kept_account observers from bytes act a s t same did
+account_links observers from bytes act a s t token observing.Deregisters same did = same_account observers from bytes act a t (was_cancelled a s t from token did same)
 
-account_replied : (watchers : ℕ) (from : Endpoint) (bytes : List ℕ) (now : ℕ) (act : Option Acted) (a : Account) (s t : Watching) (m : CoapMessage) (r : Reply)
-    → Spells m bytes → IsReplied from now m act r s t → AccountDid watchers a s → GoesOn watchers from bytes act a t
-account_replied watchers from bytes now act a s t m r spells (faulty faults none same) did = kept_account watchers from bytes act a s t same did
-account_replied watchers from bytes now act a s t m r spells (memory is none same) did = kept_account watchers from bytes act a s t same did
-account_replied watchers from bytes now act a s t m r spells (of_blocks wants none same) did = kept_account watchers from bytes act a s t same did
-account_replied watchers from bytes now act a s t m r spells (of_links text links none same is) did = account_links watchers from bytes act a s t m.token (observing_in m) same did
-account_replied watchers from bytes now act a s t m r spells (no_method links none same is) did = kept_account watchers from bytes act a s t same did
-account_replied watchers from bytes now act a s t m r spells (acted made observe_said is wants what code place watches reply) did =
-    account_watched watchers from bytes act a s t m made observe_said spells is watches did
-account_replied watchers from bytes now act a s t m r spells (acted_on_whole made observe_said b body is wants what code place watches reply) did =
-    account_watched watchers from bytes act a s t m made observe_said spells is watches did
+account_replied : (observers : ℕ) (from : Endpoint) (bytes : List ℕ) (now : ℕ) (act : Option Acted) (a : Account) (s t : Watching) (m : CoapMessage) (r : Reply)
+    → Spells m bytes → IsReplied from now m act r s t → AccountDid observers a s → GoesOn observers from bytes act a t
+account_replied observers from bytes now act a s t m r spells (faulty faults none same) did = kept_account observers from bytes act a s t same did
+account_replied observers from bytes now act a s t m r spells (memory is none same) did = kept_account observers from bytes act a s t same did
+account_replied observers from bytes now act a s t m r spells (of_blocks wants none same) did = kept_account observers from bytes act a s t same did
+account_replied observers from bytes now act a s t m r spells (of_links text links none same is) did = account_links observers from bytes act a s t m.token (observing_in m) same did
+account_replied observers from bytes now act a s t m r spells (no_method links none same is) did = kept_account observers from bytes act a s t same did
+account_replied observers from bytes now act a s t m r spells (acted made observe_said is wants what code place watches reply) did =
+    account_watched observers from bytes act a s t m made observe_said spells is watches did
+account_replied observers from bytes now act a s t m r spells (acted_on_whole made observe_said b body is wants what code place watches reply) did =
+    account_watched observers from bytes act a s t m made observe_said spells is watches did
 
-pub account_goes_on : (watchers : ℕ) (from : Endpoint) (bytes : List ℕ) (now : ℕ) (act : Option Acted) (back : List (List ℕ)) (a : Account) (s t : Server)
-    → IsTreated from bytes now act back s t → AccountDid watchers a s.watchers → GoesOn watchers from bytes act a t.watchers
-account_goes_on watchers from bytes now act back a s t (no_request never quiet none same told) did =
-    same_account watchers from bytes act a t.watchers (account_told watchers from bytes a s.watchers t.watchers told did)
-account_goes_on watchers from bytes now act back a s t (is_duplicate m e spells request found none is same kept) did = kept_account watchers from bytes act a s.watchers t.watchers kept did
-account_goes_on watchers from bytes now act back a s t (finds_full m spells request none is same kept) did = kept_account watchers from bytes act a s.watchers t.watchers kept did
-account_goes_on watchers from bytes now act back a s t (is_answered m slot r reply spells request free why spelt is new) did =
-    account_replied watchers from bytes now act a s.watchers t.watchers m r spells why did
-account_goes_on watchers from bytes now act back a s t (is_ignored m slot spells request faults none silent new kept) did = kept_account watchers from bytes act a s.watchers t.watchers kept did
+pub account_goes_on : (observers : ℕ) (from : Endpoint) (bytes : List ℕ) (now : ℕ) (act : Option Acted) (back : List (List ℕ)) (a : Account) (s t : Server)
+    → IsTreated from bytes now act back s t → AccountDid observers a s.observers → GoesOn observers from bytes act a t.observers
+account_goes_on observers from bytes now act back a s t (no_request never quiet none same told) did =
+    same_account observers from bytes act a t.observers (account_told observers from bytes a s.observers t.observers told did)
+account_goes_on observers from bytes now act back a s t (is_duplicate m e spells request found none is same kept) did = kept_account observers from bytes act a s.observers t.observers kept did
+account_goes_on observers from bytes now act back a s t (finds_full m spells request none is same kept) did = kept_account observers from bytes act a s.observers t.observers kept did
+account_goes_on observers from bytes now act back a s t (is_answered m slot r reply spells request free why spelt is new) did =
+    account_replied observers from bytes now act a s.observers t.observers m r spells why did
+account_goes_on observers from bytes now act back a s t (is_ignored m slot spells request faults none silent new kept) did = kept_account observers from bytes act a s.observers t.observers kept did

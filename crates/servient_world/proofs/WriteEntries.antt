@@ -7,12 +7,12 @@ use Rattle.coap_msg.specs.Grammar.{CoapMessage}
 use Rattle.coap_blocks.specs.Parts.{Origin, Arrival as BlockArrival}
 use Rattle.coap_blocks.specs.declared.added.Added.{Added}
 use Rattle.coap_blocks.specs.declared.added.Added.TheVariants as answer
-use Rattle.coap_opts.specs.Reading.{PlainAsk, asked as what_is_asked}
+use Rattle.coap_opts.specs.Reading.{AskSeen, asked as what_is_asked}
 use Rattle.thing_ops.specs.declared.outcome.Outcome.{Outcome}
 use Rattle.thing_ops.specs.declared.outcome.Outcome.TheVariants as outcome
 use Rattle.thing_ops.specs.Outcomes.{payload_of}
 use Rattle.coap_bind.specs.declared.blocks.BlockUse.TheVariants.{Joined}
-use Rattle.coap_bind.specs.declared.blocks.Wanted.TheVariants as wanted
+use Rattle.coap_bind.specs.declared.blocks.BlockWish.TheVariants as wanted
 use Rattle.coap_bind.specs.Blocks.{wanted_by_body, wanted_of, added_reply, block_reply, continue_reply, portion_of, most_bytes, reply_with, answer_reply}
 use Rattle.coap_bind.specs.Observing.{observing_of}
 use Rattle.coap_bind.specs.Server.{wanted_in, with_whole_body, block_arrival}
@@ -65,7 +65,7 @@ write_entry v x code path szx n z asks_it has success =
       body = at (λ (m : CoapMessage). m.payload ≡ z.body) asks_it.body_is;
     }
 
-wants_body : (code : ℕ) (a : PlainAsk) (b : Block) → IsWrite code → a.block1 ≡ Some b → wanted_of code (observing_of code a.observe) a ≡ wanted.Joining b
+wants_body : (code : ℕ) (a : AskSeen) (b : Block) → IsWrite code → a.block1 ≡ Some b → wanted_of code (observing_of code a.observe) a ≡ wanted.Joining b
 wants_body code a b (inl put) is = ap (λ (c : ℕ). wanted_of c (observing_of c a.observe) a) put ∙ ap wanted_by_body is
 wants_body code a b (inr post) is = ap (λ (c : ℕ). wanted_of c (observing_of c a.observe) a) post ∙ ap wanted_by_body is
 

@@ -8,7 +8,7 @@ use Rattle.coap_blocks.specs.Parts.{Origin, Arrival as BlockArrival, new_part}
 use Rattle.coap_blocks.specs.declared.added.Added.{Added}
 use Rattle.coap_blocks.specs.declared.added.Added.TheVariants as answer
 use Rattle.coap_blocks.proofs.PartLaws.{own_origin}
-use Rattle.coap_opts.specs.Reading.{PlainAsk, asked as what_is_asked}
+use Rattle.coap_opts.specs.Reading.{AskSeen, asked as what_is_asked}
 use Rattle.coap_bind.specs.Server.{with_whole_body, block_arrival}
 use Rattle.coap_bind.specs.Treating.{Acted}
 use Rattle.servient_world.specs.World.{Act, WorldState, client_place}
@@ -250,8 +250,8 @@ no_act v x other i y has at same none =
     cc
 
 pub writes_are_one_act : WritesAreOneAct
-writes_are_one_act first_id exchanges watchers moves w v code path szx z row start plays few write are order no_other =
-    let s = stands_after_all exchanges watchers moves w v plays few (stands_at_start first_id exchanges watchers w start) in
+writes_are_one_act first_id exchanges observers moves w v code path szx z row start plays few write are order no_other =
+    let s = stands_after_all exchanges observers moves w v plays few (stands_at_start first_id exchanges observers w start) in
     let x = s.exact in
     let r = write_entry v x code path szx 0 z are.0 are.1 (success_of z row are.2) in
     let whole : WriteRow v x code path z row = record {
@@ -269,7 +269,7 @@ writes_are_one_act first_id exchanges watchers moves w v code path szx z row sta
     let last = rest.writes in
     let e = last.entry in
     let what : last.done.act.what ≡ with_whole_body (joined_bodies (z ∷ row)) (what_is_asked e.is.message)
-    = last.done.what ∙ ap (λ (l : List ℕ). with_whole_body l (what_is_asked e.is.message)) (sym (ap (λ (p : PlainAsk). p.request.body) last.done.what) ∙ last.all) in
+    = last.done.what ∙ ap (λ (l : List ℕ). with_whole_body l (what_is_asked e.is.message)) (sym (ap (λ (p : AskSeen). p.request.body) last.done.what) ∙ last.all) in
     record {
       act = record { ask = e.for_it.entry.ask; acted = last.done.act };
       made = e.is.acted last.done.act (ap act_in last.done.led_is);

@@ -4,7 +4,7 @@ use Rattle.coap_msg.specs.declared.block.Block.{Block}
 use Rattle.coap_msg.specs.Grammar.{CoapMessage, Spells}
 use Rattle.coap_client.specs.declared.outstanding.Outstanding.{Outstanding}
 use Rattle.coap_client.specs.Answers.{block2_of}
-use Rattle.coap_opts.specs.Reading.{PlainAsk, asked as what_is_asked}
+use Rattle.coap_opts.specs.Reading.{AskSeen, asked as what_is_asked}
 use Rattle.thing_ops.specs.declared.verb.Verb.{Verb}
 use Rattle.thing_ops.specs.declared.verb.Verb.TheVariants as verb
 use Rattle.thing_ops.specs.Outcomes.{coap}
@@ -25,7 +25,7 @@ AreForDifferentAsks acts = AllPairs (λ x y. x.ask ≢ y.ask) acts
 -- For each ask the server makes at most one act.
 abbrev pub ActedOnce : Type 0
 ActedOnce =
-    (first_id exchanges watchers : ℕ) (moves : List WorldMove) (w v : WorldState) → IsStart first_id exchanges watchers w → PlaysAll moves w v
+    (first_id exchanges observers : ℕ) (moves : List WorldMove) (w v : WorldState) → IsStart first_id exchanges observers w → PlaysAll moves w v
     → AreForDifferentAsks v.acts
 
 -- a response that says that the server did nothing: as many exchanges live as may, or memory was out
@@ -39,7 +39,7 @@ abbrev pub blocks_joined : Option Block → BlockUse
 blocks_joined None = blocks.Whole
 blocks_joined (Some b) = blocks.Joined b
 
-abbrev pub blocks_by : Verb → PlainAsk → BlockUse
+abbrev pub blocks_by : Verb → AskSeen → BlockUse
 blocks_by verb.Get a = blocks.Gives (record { path = a.request.path; szx = size_asked (observing_at a.observe) a; moment = 0 })
 blocks_by verb.Head a = blocks.Whole
 blocks_by verb.Put a = blocks_joined a.block1
@@ -48,7 +48,7 @@ blocks_by verb.Patch a = blocks.Whole
 blocks_by verb.Delete a = blocks.Whole
 blocks_by verb.Other a = blocks.Whole
 
-abbrev pub blocks_for : PlainAsk → BlockUse
+abbrev pub blocks_for : AskSeen → BlockUse
 blocks_for a = blocks_by a.request.verb a
 
 -- the server's reply on an act for an ask
@@ -89,16 +89,16 @@ AsksOfBlocks asks k =
 -- only one, by the law before), and the response says its outcome.
 abbrev pub AnsweredOnce : Type 0
 AnsweredOnce =
-    (first_id exchanges watchers : ℕ) (moves : List WorldMove) (w v : WorldState) (k code : ℕ) (block : Option Block) (payload : List ℕ)
-    → IsStart first_id exchanges watchers w → PlaysAll moves w v → length v.asks ≤ 65536
+    (first_id exchanges observers : ℕ) (moves : List WorldMove) (w v : WorldState) (k code : ℕ) (block : Option Block) (payload : List ℕ)
+    → IsStart first_id exchanges observers w → PlaysAll moves w v → length v.asks ≤ 65536
     → ¬ (AsksLinks v.asks k) → ¬ (AsksOfBlocks v.asks k) → Contains v.ends (record { ask = k; end = answered code block payload })
     → IsExcuse code payload ⊎ IsAnsweredBy v.acts k code block payload
 
 -- For an ask that ended with a value of its target the server made an act.
 abbrev pub ObservedOnce : Type 0
 ObservedOnce =
-    (first_id exchanges watchers : ℕ) (moves : List WorldMove) (w v : WorldState) (k : ℕ)
-    → IsStart first_id exchanges watchers w → PlaysAll moves w v → length v.asks ≤ 65536
+    (first_id exchanges observers : ℕ) (moves : List WorldMove) (w v : WorldState) (k : ℕ)
+    → IsStart first_id exchanges observers w → PlaysAll moves w v → length v.asks ≤ 65536
     → Contains v.ends (record { ask = k; end = observed }) → (x : Act) × Contains v.acts x × (x.ask ≡ k)
 
 -- of the values that are taken for one ask none is of an earlier emission than one before it
@@ -108,8 +108,8 @@ NeverGoBack taken = AllPairs (λ x y. x.ask ≡ y.ask → x.place ≤ y.place) t
 -- Values never go back; and the one that a registration read, whose place is 0, comes first, if it is taken.
 abbrev pub ValuesNeverGoBack : Type 0
 ValuesNeverGoBack =
-    (first_id exchanges watchers : ℕ) (moves : List WorldMove) (w v : WorldState)
-    → IsStart first_id exchanges watchers w → PlaysAll moves w v → length v.asks ≤ 65536 → v.ids ≤ 65536 → NeverGoBack v.taken
+    (first_id exchanges observers : ℕ) (moves : List WorldMove) (w v : WorldState)
+    → IsStart first_id exchanges observers w → PlaysAll moves w v → length v.asks ≤ 65536 → v.ids ≤ 65536 → NeverGoBack v.taken
 
 -- A value was read by the registration of its ask: it is the outcome of the act for that.
 pub record WasRead (acts : List Act) (x : Value) : Type 0 where
@@ -135,6 +135,6 @@ HaveASource acts emitted taken = All (λ x. WasRead acts x ⊎ WasEmitted acts e
 
 abbrev pub ValuesHaveASource : Type 0
 ValuesHaveASource =
-    (first_id exchanges watchers : ℕ) (moves : List WorldMove) (w v : WorldState)
-    → IsStart first_id exchanges watchers w → PlaysAll moves w v → length v.asks ≤ 65536
+    (first_id exchanges observers : ℕ) (moves : List WorldMove) (w v : WorldState)
+    → IsStart first_id exchanges observers w → PlaysAll moves w v → length v.asks ≤ 65536
     → HaveASource v.acts v.emitted v.taken

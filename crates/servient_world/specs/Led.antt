@@ -17,7 +17,7 @@ use Rattle.thing_ops.specs.Outcomes.{HasCode}
 use Rattle.coap_opts.specs.Reading.{faults_of, asked as what_is_asked}
 use Rattle.coap_bind.specs.declared.server.Server.{Server}
 use Rattle.coap_bind.specs.declared.blocks.BlockUse.TheVariants.{Joined}
-use Rattle.coap_bind.specs.declared.blocks.Wanted.TheVariants.{Act, LaterBlock, Joining}
+use Rattle.coap_bind.specs.declared.blocks.BlockWish.TheVariants.{Act, LaterBlock, Joining}
 use Rattle.coap_bind.specs.Blocks.{use_of, answer_reply, bodies_after, later_reply, added_reply}
 use Rattle.coap_bind.specs.Links.{size_asked, links_reply, method_reply, bodies_with_links}
 use Rattle.coap_bind.specs.Observing.{effect_of, Watches}
@@ -139,7 +139,7 @@ pub record IsLed (from : Endpoint) (bytes : List ℕ) (now : ℕ) (act : Option 
   pub leads : LeadsTo from now message s.links seen led reply
   pub leaves : Leaves from now message led s t
   pub act_is : act ≡ act_in led
-  pub watches : (a : Acted) → act ≡ Some a → Watches (effect_of (observing_in message) a.outcome a.target) from message.token s.watchers seen t.watchers
+  pub watches : (a : Acted) → act ≡ Some a → Watches (effect_of (observing_in message) a.outcome a.target) from message.token s.observers seen t.observers
   pub sent : IsBack message led reply s.next_id back
   pub links : t.links ≡ s.links
 

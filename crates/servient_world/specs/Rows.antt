@@ -100,8 +100,8 @@ pub record AreOfOneAct (path : List (List ℕ)) (v : WorldState) (x : RowAsk) (r
 -- A row of asks reads the outcome of one act.
 abbrev pub ReadsAreOfOneAct : Type 0
 ReadsAreOfOneAct =
-    (first_id exchanges watchers : ℕ) (moves : List WorldMove) (w v : WorldState) (path : List (List ℕ)) (szx : ℕ) (x : RowAsk) (row : List RowAsk)
-    → IsStart first_id exchanges watchers w → PlaysAll moves w v → length v.asks ≤ 65536
+    (first_id exchanges observers : ℕ) (moves : List WorldMove) (w v : WorldState) (path : List (List ℕ)) (szx : ℕ) (x : RowAsk) (row : List RowAsk)
+    → IsStart first_id exchanges observers w → PlaysAll moves w v → length v.asks ≤ 65536
     → AreReads v.asks v.ends path szx 0 (x ∷ row) → AreInOrder (x ∷ row) → NoOther v.asks (IsOfPath path) x row
     → AreOfOneAct path v x row
 
@@ -147,7 +147,7 @@ pub record IsOneAct (v : WorldState) (x : RowAsk) (row : List RowAsk) : Type 0 w
 -- A body that a row of asks writes is acted on once, whole.
 abbrev pub WritesAreOneAct : Type 0
 WritesAreOneAct =
-    (first_id exchanges watchers : ℕ) (moves : List WorldMove) (w v : WorldState) (code : ℕ) (path : List (List ℕ)) (szx : ℕ) (x : RowAsk) (row : List RowAsk)
-    → IsStart first_id exchanges watchers w → PlaysAll moves w v → length v.asks ≤ 65536
+    (first_id exchanges observers : ℕ) (moves : List WorldMove) (w v : WorldState) (code : ℕ) (path : List (List ℕ)) (szx : ℕ) (x : RowAsk) (row : List RowAsk)
+    → IsStart first_id exchanges observers w → PlaysAll moves w v → length v.asks ≤ 65536
     → IsWrite code → AreWrites v.asks v.ends code path szx 0 (x ∷ row) → AreInOrder (x ∷ row) → NoOther v.asks (IsOfCodeAndPath code path) x row
     → IsOneAct v x row

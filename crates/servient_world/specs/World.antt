@@ -45,7 +45,7 @@ pub data Purpose : Type 0 where
   -- because a copy of this ask came
   reply_to : ℕ → Purpose
   -- to notify of the target for which this ask registered: with this sequence number, of the value in this place
-  notice_for : ℕ → ℕ → ℕ → Purpose
+  notification_for : ℕ → ℕ → ℕ → Purpose
   -- because of something else
   other : Purpose
 
@@ -102,10 +102,10 @@ pub record WorldState : Type 0 where
 
 -- Nothing happened yet: a new client, and a server in which so many exchanges may live and so many observers may be,
 -- with some text of its links.
-pub record IsStart (first_id exchanges watchers : ℕ) (w : WorldState) : Type 0 where
+pub record IsStart (first_id exchanges observers : ℕ) (w : WorldState) : Type 0 where
   pub client : IsNew first_id w.client
   pub links : List ℕ
-  pub server : w.server ≡ with_links links (nothing_came exchanges watchers)
+  pub server : w.server ≡ with_links links (nothing_came exchanges observers)
   pub asks : w.asks ≡ []
   pub sent : w.sent ≡ []
   pub acts : w.acts ≡ []
@@ -177,7 +177,7 @@ end_by None after k what = []
 abbrev pub value_by : Purpose → List ℕ → List Value
 value_by (copy_of k) payload = []
 value_by (reply_to k) payload = record { ask = k; place = 0; payload = payload } ∷ []
-value_by (notice_for k q e) payload = record { ask = k; place = e; payload = payload } ∷ []
+value_by (notification_for k q e) payload = record { ask = k; place = e; payload = payload } ∷ []
 value_by other payload = []
 
 abbrev pub taken_by : Purpose → News → List Value
@@ -216,14 +216,14 @@ abbrev pub acts_for : Purpose → Option Acted → List Act
 acts_for (copy_of k) (Some acted) = record { ask = k; acted = acted } ∷ []
 acts_for (copy_of k) None = []
 acts_for (reply_to k) act = []
-acts_for (notice_for k q e) act = []
+acts_for (notification_for k q e) act = []
 acts_for other act = []
 
 -- the purpose of the reply to a datagram of this purpose
 abbrev pub purpose_back : Purpose → Purpose
 purpose_back (copy_of k) = reply_to k
 purpose_back (reply_to k) = other
-purpose_back (notice_for k q e) = other
+purpose_back (notification_for k q e) = other
 purpose_back other = other
 
 -- a datagram comes to it
@@ -259,7 +259,7 @@ registration_from k token (a ∷ asks) = if a.registers && bytes_eq token a.toke
 -- the purpose of a notification: to the client, for the ask that registered with its token
 abbrev pub purpose_at : Option ℕ → ℕ → ℕ → Purpose
 purpose_at None sequence place = other
-purpose_at (Some k) sequence place = notice_for k sequence place
+purpose_at (Some k) sequence place = notification_for k sequence place
 
 abbrev pub purpose_of : Notice → List Outstanding → List Emission → Purpose
 purpose_of n asks emitted =
@@ -268,8 +268,8 @@ purpose_of n asks emitted =
     else other
 
 -- a notification is sent now: it says the last value of its target
-abbrev pub notice_sent : ℕ → List Outstanding → List Emission → Notice → Datagram
-notice_sent moment asks emitted n = record {
+abbrev pub notification_sent : ℕ → List Outstanding → List Emission → Notice → Datagram
+notification_sent moment asks emitted n = record {
   moment = moment;
   from = server_place;
   to = n.to;
@@ -277,16 +277,16 @@ notice_sent moment asks emitted n = record {
   purpose = purpose_of n asks emitted;
 }
 
-abbrev pub with_notice : Option Notice → WorldState → WorldState
-with_notice None w = w
-with_notice (Some n) w = record w { sent = w.sent ++ notice_sent w.moment w.asks w.emitted n ∷ []; ids = w.ids + one_if n.fresh }
+abbrev pub with_notification : Option Notice → WorldState → WorldState
+with_notification None w = w
+with_notification (Some n) w = record w { sent = w.sent ++ notification_sent w.moment w.asks w.emitted n ∷ []; ids = w.ids + one_if n.fresh }
 
 -- it sends notifications: one at most
 pub record ServerNotifies (w v : WorldState) : Type 0 where
   pub notice : Option Notice
   pub after : Server
   pub sends : SendsNext w.moment notice w.server after
-  pub next : v ≡ with_notice notice (record w { server = after })
+  pub next : v ≡ with_notification notice (record w { server = after })
 
 -- ---- the network
 

@@ -2,7 +2,7 @@
 use Rattle.std.proofs.Common.{◌≡◌, ◌==◌, ◌≢◌, ◌⊎◌, ◌<◌, ◌≤◌, ℕ, zero, suc, true, false, List, [], ◌∷◌, ◌++◌, length, get_or, set, replicate, Option, Some, None, IfSome, inl, inr, sym, refl, ap, subst, ◌∙◌, arith}
 use Rattle.std.proofs.lemmas.Bool.Decides.{nat_tests, eqb_tells}
 use Rattle.std.proofs.lemmas.List.{get_or-set_same, get_or-set_other, length-set, length-map, get_or-map, ext_get_or, length-replicate}
-use Rattle.slot_lists.specs.declared.link.Link.{Link}
+use Rattle.slot_lists.specs.declared.link.SlotLink.{SlotLink}
 use Rattle.slot_lists.specs.declared.link.Ends.{Ends}
 use Rattle.slot_lists.specs.Lists.{Lists, is_among, without, first_of}
 use Rattle.slot_lists.specs.Links.{AreDistinct, AreNeighbours, last_after, beside, link_at, previous_in, next_in, ends_at, slots_from, lists_in, Makes, with_next, with_previous, ends_with, ends_without, first_or}
@@ -10,7 +10,7 @@ use Rattle.slot_lists.proofs.Among.{differ, among_push, distinct_push, among_wit
 use Rattle.slot_lists.proofs.Neighbours.{Appended, Bridged, before_within, below_capacity, last_is_among, last_push, same_neighbours, neighbours_push, neighbours_without, first_without, last_without, first_among, slots_walked, after_within}
 
 -- the lists that links and ends make are those that are seen
-shown_at : (links : List Link) (ends : List Ends) (lists : List (List ℕ)) (i : ℕ) → Makes links ends lists → i < length ends
+shown_at : (links : List SlotLink) (ends : List Ends) (lists : List (List ℕ)) (i : ℕ) → Makes links ends lists → i < length ends
     → get_or lists i [] ≡ get_or (lists_in links ends) i []
 shown_at links ends lists i m within =
     let xs : List ℕ = get_or lists i [] in
@@ -22,65 +22,65 @@ shown_at links ends lists i m within =
     = get_or-map (λ (e : Ends). slots_from links (length links) e.first) ends i (record { first = None; last = None }) [] within in
     sym (at ∙ (ap (slots_from links (length links)) (m.first i within) ∙ walked))
 
-pub shown : (links : List Link) (ends : List Ends) (lists : List (List ℕ)) → Makes links ends lists → lists ≡ lists_in links ends
+pub shown : (links : List SlotLink) (ends : List Ends) (lists : List (List ℕ)) → Makes links ends lists → lists ≡ lists_in links ends
 shown links ends lists m =
     let many : length lists ≡ length (lists_in links ends) = m.count ∙ sym (length-map ends (λ (e : Ends). slots_from links (length links) e.first)) in
     ext_get_or [] lists (lists_in links ends) many (λ i h. shown_at links ends lists i m (subst (λ n. i < n) m.count h))
 
-pub makes_seen : (links : List Link) (ends : List Ends) (lists : List (List ℕ)) → Makes links ends lists → Makes links ends (lists_in links ends)
+pub makes_seen : (links : List SlotLink) (ends : List Ends) (lists : List (List ℕ)) → Makes links ends lists → Makes links ends (lists_in links ends)
 makes_seen links ends lists m = subst (Makes links ends) (shown links ends lists m) m
 
 -- ---- links that are written
 
-pub length-with_next : (o next : Option ℕ) (links : List Link) → length (with_next o next links) ≡ length links
+pub length-with_next : (o next : Option ℕ) (links : List SlotLink) → length (with_next o next links) ≡ length links
 length-with_next None next links = refl
 length-with_next (Some slot) next links = length-set links slot _
 
-pub length-with_previous : (o previous : Option ℕ) (links : List Link) → length (with_previous o previous links) ≡ length links
+pub length-with_previous : (o previous : Option ℕ) (links : List SlotLink) → length (with_previous o previous links) ≡ length links
 length-with_previous None previous links = refl
 length-with_previous (Some slot) previous links = length-set links slot _
 
-no_link : Link
+no_link : SlotLink
 no_link = record { previous = None; next = None }
 
-pub next_written : (slot : ℕ) (o next : Option ℕ) (links : List Link) → slot < length links → o ≡ Some slot → next_in (with_next o next links) slot ≡ next
+pub next_written : (slot : ℕ) (o next : Option ℕ) (links : List SlotLink) → slot < length links → o ≡ Some slot → next_in (with_next o next links) slot ≡ next
 next_written slot None next links h e = absurd cc
 next_written slot (Some s) next links h e =
     let same : s ≡ slot = cc in
     let within : s < length links = omega arith in
-    ap (λ n. next_in (with_next (Some s) next links) n) (sym same) ∙ ap (λ (l : Link). l.next) (get_or-set_same links s _ _ within)
+    ap (λ n. next_in (with_next (Some s) next links) n) (sym same) ∙ ap (λ (l : SlotLink). l.next) (get_or-set_same links s _ _ within)
 
-pub next_elsewhere : (slot : ℕ) (o next : Option ℕ) (links : List Link) → (o ≡ Some slot → ⊥) → next_in (with_next o next links) slot ≡ next_in links slot
+pub next_elsewhere : (slot : ℕ) (o next : Option ℕ) (links : List SlotLink) → (o ≡ Some slot → ⊥) → next_in (with_next o next links) slot ≡ next_in links slot
 next_elsewhere slot None next links h = refl
-next_elsewhere slot (Some s) next links h = ap (λ (l : Link). l.next) (get_or-set_other links s slot _ _ (λ e. h (ap (λ n. Some n) (sym e))))
+next_elsewhere slot (Some s) next links h = ap (λ (l : SlotLink). l.next) (get_or-set_other links s slot _ _ (λ e. h (ap (λ n. Some n) (sym e))))
 
-previous_at : (slot s : ℕ) (next : Option ℕ) (links : List Link) → (slot ≡ s) ⊎ (slot ≢ s) → s < length links → previous_in (with_next (Some s) next links) slot ≡ previous_in links slot
-previous_at slot s next links (inl e) h = ap (λ n. previous_in (with_next (Some s) next links) n) e ∙ (ap (λ (l : Link). l.previous) (get_or-set_same links s _ _ h) ∙ ap (previous_in links) (sym e))
-previous_at slot s next links (inr e) h = ap (λ (l : Link). l.previous) (get_or-set_other links s slot _ _ e)
+previous_at : (slot s : ℕ) (next : Option ℕ) (links : List SlotLink) → (slot ≡ s) ⊎ (slot ≢ s) → s < length links → previous_in (with_next (Some s) next links) slot ≡ previous_in links slot
+previous_at slot s next links (inl e) h = ap (λ n. previous_in (with_next (Some s) next links) n) e ∙ (ap (λ (l : SlotLink). l.previous) (get_or-set_same links s _ _ h) ∙ ap (previous_in links) (sym e))
+previous_at slot s next links (inr e) h = ap (λ (l : SlotLink). l.previous) (get_or-set_other links s slot _ _ e)
 
 either_slot : (a b : ℕ) → (a ≡ b) ⊎ (a ≢ b)
 either_slot a b = elim (eqb_tells a b) [ inl w ↦ inl w.1 | inr w ↦ inr w.1 ]
 
-pub previous_stays : (slot : ℕ) (o next : Option ℕ) (links : List Link) → IfSome o (λ s. s < length links) → previous_in (with_next o next links) slot ≡ previous_in links slot
+pub previous_stays : (slot : ℕ) (o next : Option ℕ) (links : List SlotLink) → IfSome o (λ s. s < length links) → previous_in (with_next o next links) slot ≡ previous_in links slot
 previous_stays slot None next links h = refl
 previous_stays slot (Some s) next links h = previous_at slot s next links (either_slot slot s) h
 
-pub previous_written : (slot : ℕ) (o previous : Option ℕ) (links : List Link) → slot < length links → o ≡ Some slot → previous_in (with_previous o previous links) slot ≡ previous
+pub previous_written : (slot : ℕ) (o previous : Option ℕ) (links : List SlotLink) → slot < length links → o ≡ Some slot → previous_in (with_previous o previous links) slot ≡ previous
 previous_written slot None previous links h e = absurd cc
 previous_written slot (Some s) previous links h e =
     let same : s ≡ slot = cc in
     let within : s < length links = omega arith in
-    ap (λ n. previous_in (with_previous (Some s) previous links) n) (sym same) ∙ ap (λ (l : Link). l.previous) (get_or-set_same links s _ _ within)
+    ap (λ n. previous_in (with_previous (Some s) previous links) n) (sym same) ∙ ap (λ (l : SlotLink). l.previous) (get_or-set_same links s _ _ within)
 
-pub previous_elsewhere : (slot : ℕ) (o previous : Option ℕ) (links : List Link) → (o ≡ Some slot → ⊥) → previous_in (with_previous o previous links) slot ≡ previous_in links slot
+pub previous_elsewhere : (slot : ℕ) (o previous : Option ℕ) (links : List SlotLink) → (o ≡ Some slot → ⊥) → previous_in (with_previous o previous links) slot ≡ previous_in links slot
 previous_elsewhere slot None previous links h = refl
-previous_elsewhere slot (Some s) previous links h = ap (λ (l : Link). l.previous) (get_or-set_other links s slot _ _ (λ e. h (ap (λ n. Some n) (sym e))))
+previous_elsewhere slot (Some s) previous links h = ap (λ (l : SlotLink). l.previous) (get_or-set_other links s slot _ _ (λ e. h (ap (λ n. Some n) (sym e))))
 
-next_at : (slot s : ℕ) (previous : Option ℕ) (links : List Link) → (slot ≡ s) ⊎ (slot ≢ s) → s < length links → next_in (with_previous (Some s) previous links) slot ≡ next_in links slot
-next_at slot s previous links (inl e) h = ap (λ n. next_in (with_previous (Some s) previous links) n) e ∙ (ap (λ (l : Link). l.next) (get_or-set_same links s _ _ h) ∙ ap (next_in links) (sym e))
-next_at slot s previous links (inr e) h = ap (λ (l : Link). l.next) (get_or-set_other links s slot _ _ e)
+next_at : (slot s : ℕ) (previous : Option ℕ) (links : List SlotLink) → (slot ≡ s) ⊎ (slot ≢ s) → s < length links → next_in (with_previous (Some s) previous links) slot ≡ next_in links slot
+next_at slot s previous links (inl e) h = ap (λ n. next_in (with_previous (Some s) previous links) n) e ∙ (ap (λ (l : SlotLink). l.next) (get_or-set_same links s _ _ h) ∙ ap (next_in links) (sym e))
+next_at slot s previous links (inr e) h = ap (λ (l : SlotLink). l.next) (get_or-set_other links s slot _ _ e)
 
-pub next_stays : (slot : ℕ) (o previous : Option ℕ) (links : List Link) → IfSome o (λ s. s < length links) → next_in (with_previous o previous links) slot ≡ next_in links slot
+pub next_stays : (slot : ℕ) (o previous : Option ℕ) (links : List SlotLink) → IfSome o (λ s. s < length links) → next_in (with_previous o previous links) slot ≡ next_in links slot
 next_stays slot None previous links h = refl
 next_stays slot (Some s) previous links h = next_at slot s previous links (either_slot slot s) h
 
@@ -101,7 +101,7 @@ at_both P ends lists list i e new within_ends within_lists here others = elim (e
 ]
 
 -- the conditions on the links, on the ends and on the slots of the new list
-record Changed (links links2 : List Link) (lists : List (List ℕ)) (list : ℕ) (e : Ends) (new : List ℕ) : Type 0 where
+record Changed (links links2 : List SlotLink) (lists : List (List ℕ)) (list : ℕ) (e : Ends) (new : List ℕ) : Type 0 where
   many : length links2 ≡ length links
   first : e.first ≡ first_of new
   last : e.last ≡ last_after None new
@@ -110,7 +110,7 @@ record Changed (links links2 : List Link) (lists : List (List ℕ)) (list : ℕ)
   others : (i : ℕ) → i ≢ list → AreNeighbours (length links) (previous_in links2) (next_in links2) None (get_or lists i [])
   apart : (slot i : ℕ) → is_among slot new ≡ true → is_among slot (get_or lists i []) ≡ true → i ≡ list
 
-makes_changed : (links links2 : List Link) (ends : List Ends) (lists : List (List ℕ)) (list : ℕ) (e : Ends) (new : List ℕ)
+makes_changed : (links links2 : List SlotLink) (ends : List Ends) (lists : List (List ℕ)) (list : ℕ) (e : Ends) (new : List ℕ)
     → Makes links ends lists → list < length ends → Changed links links2 lists list e new → Makes links2 (set ends list e) (set lists list new)
 makes_changed links links2 ends lists list e new m within h =
     let within_lists : list < length lists = subst (λ n. list < n) (sym m.count) within in
@@ -143,29 +143,29 @@ if_some (Some z) P h = h z refl
 -- ---- a slot at the end
 
 -- the links once a slot was put after the last one
-abbrev pub pushed_links : List Link → Option ℕ → ℕ → List Link
+abbrev pub pushed_links : List SlotLink → Option ℕ → ℕ → List SlotLink
 pushed_links links last slot = with_next last (Some slot) (set links slot (record { previous = last; next = None }))
 
-appended : (links : List Link) (last : Option ℕ) (slot : ℕ) → slot < length links → (last ≡ Some slot → ⊥) → ((z : ℕ) → last ≡ Some z → z < length links)
+appended : (links : List SlotLink) (last : Option ℕ) (slot : ℕ) → slot < length links → (last ≡ Some slot → ⊥) → ((z : ℕ) → last ≡ Some z → z < length links)
     → Appended (previous_in links) (next_in links) (previous_in (pushed_links links last slot)) (next_in (pushed_links links last slot)) slot last
 appended links last slot below other bound =
-    let new : Link = record { previous = last; next = None } in
-    let base : List Link = set links slot (record { previous = last; next = None }) in
+    let new : SlotLink = record { previous = last; next = None } in
+    let base : List SlotLink = set links slot (record { previous = last; next = None }) in
     let many : length (set links slot (record { previous = last; next = None })) ≡ length links = length-set links slot _ in
     let bound2 : (z : ℕ) → last ≡ Some z → z < length (set links slot (record { previous = last; next = None }))
     = λ z e. subst (λ n. z < n) (sym many) (bound z e) in
     let may : IfSome last (λ s. s < length (set links slot (record { previous = last; next = None }))) = if_some last _ bound2 in
     record {
-      back = previous_stays slot last (Some slot) _ may ∙ ap (λ (l : Link). l.previous) (get_or-set_same links slot _ _ below);
-      on = next_elsewhere slot last (Some slot) _ other ∙ ap (λ (l : Link). l.next) (get_or-set_same links slot _ _ below);
-      others_back = λ z d. previous_stays z last (Some slot) _ may ∙ ap (λ (l : Link). l.previous) (get_or-set_other links slot z _ _ (apart_from slot z d));
+      back = previous_stays slot last (Some slot) _ may ∙ ap (λ (l : SlotLink). l.previous) (get_or-set_same links slot _ _ below);
+      on = next_elsewhere slot last (Some slot) _ other ∙ ap (λ (l : SlotLink). l.next) (get_or-set_same links slot _ _ below);
+      others_back = λ z d. previous_stays z last (Some slot) _ may ∙ ap (λ (l : SlotLink). l.previous) (get_or-set_other links slot z _ _ (apart_from slot z d));
       last_on = λ z e d. next_written z last (Some slot) _ (bound2 z e) e;
-      others_on = λ z inner d. next_elsewhere z last (Some slot) _ inner ∙ ap (λ (l : Link). l.next) (get_or-set_other links slot z _ _ (apart_from slot z d));
+      others_on = λ z inner d. next_elsewhere z last (Some slot) _ inner ∙ ap (λ (l : SlotLink). l.next) (get_or-set_other links slot z _ _ (apart_from slot z d));
     } where
       apart_from : (a b : ℕ) → (a == b) ≡ false → b ≢ a
       apart_from a b e = grind (arith, nat_tests)
 
-pub makes_push : (links : List Link) (ends : List Ends) (lists : List (List ℕ)) (list slot : ℕ)
+pub makes_push : (links : List SlotLink) (ends : List Ends) (lists : List (List ℕ)) (list slot : ℕ)
     → Makes links ends lists → list < length ends → slot < length links → ((i : ℕ) → is_among slot (get_or lists i []) ≡ false)
     → Makes (pushed_links links (ends_at ends list).last slot) (set ends list (ends_with slot (ends_at ends list))) (set lists list (get_or lists list [] ++ slot ∷ []))
 makes_push links ends lists list slot m within below none =
@@ -213,10 +213,10 @@ makes_push links ends lists list slot m within below none =
 -- ---- a slot that is taken out
 
 -- the links once the slot with this link was taken out
-abbrev pub bridged_links : List Link → Link → List Link
+abbrev pub bridged_links : List SlotLink → SlotLink → List SlotLink
 bridged_links links link = with_previous link.next link.previous (with_next link.previous link.next links)
 
-bridged : (links : List Link) (slot : ℕ) → ((z : ℕ) → previous_in links slot ≡ Some z → z < length links) → ((z : ℕ) → next_in links slot ≡ Some z → z < length links)
+bridged : (links : List SlotLink) (slot : ℕ) → ((z : ℕ) → previous_in links slot ≡ Some z → z < length links) → ((z : ℕ) → next_in links slot ≡ Some z → z < length links)
     → Bridged (previous_in links) (next_in links) (previous_in (bridged_links links (link_at links slot))) (next_in (bridged_links links (link_at links slot))) slot
 bridged links slot back_bound on_bound =
     let b : Option ℕ = previous_in links slot in
@@ -237,17 +237,17 @@ bridged links slot back_bound on_bound =
     }
 
 -- the neighbours of a member are places
-pub back_is_place : (links : List Link) (ends : List Ends) (lists : List (List ℕ)) (list slot : ℕ) → Makes links ends lists → is_among slot (get_or lists list []) ≡ true
+pub back_is_place : (links : List SlotLink) (ends : List Ends) (lists : List (List ℕ)) (list slot : ℕ) → Makes links ends lists → is_among slot (get_or lists list []) ≡ true
     → (z : ℕ) → previous_in links slot ≡ Some z → z < length links
 back_is_place links ends lists list slot m has z e =
     below_capacity (length links) _ _ None (get_or lists list []) z (m.neighbours list) (before_within (length links) _ _ (get_or lists list []) slot z (m.neighbours list) has e)
 
-pub on_is_place : (links : List Link) (ends : List Ends) (lists : List (List ℕ)) (list slot : ℕ) → Makes links ends lists → is_among slot (get_or lists list []) ≡ true
+pub on_is_place : (links : List SlotLink) (ends : List Ends) (lists : List (List ℕ)) (list slot : ℕ) → Makes links ends lists → is_among slot (get_or lists list []) ≡ true
     → (z : ℕ) → next_in links slot ≡ Some z → z < length links
 on_is_place links ends lists list slot m has z e =
     below_capacity (length links) _ _ None (get_or lists list []) z (m.neighbours list) (after_within (length links) _ _ None (get_or lists list []) slot z (m.neighbours list) has e)
 
-pub makes_without : (links : List Link) (ends : List Ends) (lists : List (List ℕ)) (list slot : ℕ)
+pub makes_without : (links : List SlotLink) (ends : List Ends) (lists : List (List ℕ)) (list slot : ℕ)
     → Makes links ends lists → list < length ends → is_among slot (get_or lists list []) ≡ true
     → Makes (bridged_links links (link_at links slot)) (set ends list (ends_without (link_at links slot) (ends_at ends list))) (set lists list (without slot (get_or lists list [])))
 makes_without links ends lists list slot m within has =
@@ -281,7 +281,7 @@ no_ends_at zero i none = refl
 no_ends_at (suc n) zero none = refl
 no_ends_at (suc n) (suc i) none = no_ends_at n i none
 
-pub makes_empty : (count : ℕ) (links : List Link)
+pub makes_empty : (count : ℕ) (links : List SlotLink)
     → Makes links (replicate count (record { first = None; last = None })) (replicate count [])
 makes_empty count links =
     let none : Ends = record { first = None; last = None } in
@@ -299,15 +299,15 @@ makes_empty count links =
 
 -- ---- in the words of the code
 
-abbrev pub seen : List Link → List Ends → Lists
+abbrev pub seen : List SlotLink → List Ends → Lists
 seen links ends = record { capacity = length links; lists = lists_in links ends }
 
 -- the view of links and ends that make these lists
-pub seen_as : (links : List Link) (ends : List Ends) (lists : List (List ℕ)) (capacity : ℕ) → Makes links ends lists → length links ≡ capacity
+pub seen_as : (links : List SlotLink) (ends : List Ends) (lists : List (List ℕ)) (capacity : ℕ) → Makes links ends lists → length links ≡ capacity
     → seen links ends ≡ record { capacity = capacity; lists = lists }
 seen_as links ends lists capacity m e = λ i. record { capacity = e i; lists = sym (shown links ends lists m) i }
 
-pub pushed_as : (links links2 : List Link) (ends : List Ends) (lists : List (List ℕ)) (list slot : ℕ) (x w : Ends)
+pub pushed_as : (links links2 : List SlotLink) (ends : List Ends) (lists : List (List ℕ)) (list slot : ℕ) (x w : Ends)
     → Makes links ends lists → list < length ends → slot < length links → ((i : ℕ) → is_among slot (get_or lists i []) ≡ false)
     → x ≡ ends_at ends list → w ≡ ends_with slot x → links2 ≡ pushed_links links x.last slot
     → Makes links2 (set ends list w) (set lists list (get_or lists list [] ++ slot ∷ []))
@@ -319,7 +319,7 @@ pushed_as links links2 ends lists list slot x w m within below none read with_sl
     subst (λ l. Makes l (set ends list w) (set lists list (get_or lists list [] ++ slot ∷ []))) (sym written)
     (subst (λ e. Makes (pushed_links links x.last slot) (set ends list e) (set lists list (get_or lists list [] ++ slot ∷ []))) (sym with_slot) at)
 
-pub taken_as : (links links2 : List Link) (ends : List Ends) (lists : List (List ℕ)) (list slot : ℕ) (link : Link) (x w : Ends)
+pub taken_as : (links links2 : List SlotLink) (ends : List Ends) (lists : List (List ℕ)) (list slot : ℕ) (link : SlotLink) (x w : Ends)
     → Makes links ends lists → list < length ends → is_among slot (get_or lists list []) ≡ true
     → link ≡ link_at links slot → x ≡ ends_at ends list → w ≡ ends_without link x → links2 ≡ bridged_links links link
     → Makes links2 (set ends list w) (set lists list (without slot (get_or lists list [])))
@@ -331,18 +331,18 @@ taken_as links links2 ends lists list slot link x w m within has read_link read 
     subst (λ l. Makes l (set ends list w) (set lists list (without slot (get_or lists list [])))) (sym written)
     (subst (λ e. Makes (bridged_links links link) (set ends list e) (set lists list (without slot (get_or lists list [])))) (sym ends_are) at)
 
-pub is_below : (links : List Link) (ends : List Ends) (lists : List (List ℕ)) (list slot : ℕ) → Makes links ends lists → is_among slot (get_or lists list []) ≡ true → slot < length links
+pub is_below : (links : List SlotLink) (ends : List Ends) (lists : List (List ℕ)) (list slot : ℕ) → Makes links ends lists → is_among slot (get_or lists list []) ≡ true → slot < length links
 is_below links ends lists list slot m has = below_capacity (length links) _ _ None (get_or lists list []) slot (m.neighbours list) has
 
 pub if_some_bound : (o : Option ℕ) (n : ℕ) → ((z : ℕ) → o ≡ Some z → z < n) → IfSome o (λ s. s < n)
 if_some_bound o n h = if_some o (λ s. s < n) h
 
-pub last_is_place : (links : List Link) (ends : List Ends) (lists : List (List ℕ)) (list : ℕ) → Makes links ends lists → list < length ends
+pub last_is_place : (links : List SlotLink) (ends : List Ends) (lists : List (List ℕ)) (list : ℕ) → Makes links ends lists → list < length ends
     → (z : ℕ) → (ends_at ends list).last ≡ Some z → z < length links
 last_is_place links ends lists list m within z e =
     is_below links ends lists list z m (last_is_among (get_or lists list []) z (sym (m.last list within) ∙ e))
 
-pub first_is_place : (links : List Link) (ends : List Ends) (lists : List (List ℕ)) (list : ℕ) → Makes links ends lists → list < length ends
+pub first_is_place : (links : List SlotLink) (ends : List Ends) (lists : List (List ℕ)) (list : ℕ) → Makes links ends lists → list < length ends
     → (z : ℕ) → (ends_at ends list).first ≡ Some z → z < length links
 first_is_place links ends lists list m within z e =
     is_below links ends lists list z m (first_among (get_or lists list []) z (sym (m.first list within) ∙ e))

@@ -1,7 +1,7 @@
 -- Slots that are linked to their neighbours: what a slot more at the end, and one fewer, change.
 use Rattle.std.proofs.Common.{◌≡◌, ◌==◌, ◌||◌, ◌<◌, ◌≤◌, ℕ, zero, suc, true, false, List, [], ◌∷◌, ◌++◌, length, Option, Some, None, inl, inr, sym, refl, ap, subst, ◌∙◌, arith}
 use Rattle.std.proofs.lemmas.Bool.Decides.{eqb_tells}
-use Rattle.slot_lists.specs.declared.link.Link.{Link}
+use Rattle.slot_lists.specs.declared.link.SlotLink.{SlotLink}
 use Rattle.slot_lists.specs.Lists.{is_among, without, first_of, from_slot}
 use Rattle.slot_lists.specs.Links.{AreDistinct, AreNeighbours, last_after, beside, next_in, slots_from}
 use Rattle.slot_lists.proofs.Among.{neither, either, same_slot, is_same, among_first, among_rest, not_the_same, without_absent}
@@ -240,7 +240,7 @@ after_leads capacity slot before after p (x ∷ xs) d m h = elim (eqb_tells slot
 ]
 
 -- the links lead through all the slots
-pub slots_walked : (links : List Link) (before : ℕ → Option ℕ) (p : Option ℕ) (xs : List ℕ) (most capacity : ℕ)
+pub slots_walked : (links : List SlotLink) (before : ℕ → Option ℕ) (p : Option ℕ) (xs : List ℕ) (most capacity : ℕ)
     → AreNeighbours capacity before (next_in links) p xs → length xs ≤ most → slots_from links most (first_of xs) ≡ xs
 slots_walked links before p [] most capacity h n = refl
 slots_walked links before p (x ∷ xs) zero capacity h n = absurd (omega arith)

@@ -2,7 +2,7 @@
 
 /// The neighbours of a slot in its list.
 #[derive(Clone, Copy)]
-pub struct Link {
+pub struct SlotLink {
     /// The one before it.
     pub previous: Option<u32>,
     /// The one after it.
@@ -37,7 +37,7 @@ impl Ends {
     }
 
     /// The ends once the slot with this link was taken out.
-    pub fn without(&self, link: Link) -> Ends
+    pub fn without(&self, link: SlotLink) -> Ends
         ensures { result ≡ ends_without link self.now }
     {
         let first = match link.previous {

@@ -4,7 +4,7 @@ ghost use Rattle.std.specs.Prelude.{◌≡◌, ◌<◌, ◌≤◌, ◌∷◌, []
 ghost use Rattle.slot_lists.specs.Links.{with_next, with_previous};
 
 use crate::NoMemory;
-use crate::link::{Ends, Link};
+use crate::link::{Ends, SlotLink};
 use std::alloc::Global;
 use std::marker::Model;
 
@@ -12,7 +12,7 @@ use std::marker::Model;
 /// below, and the lists (`Lists` of specs/Lists.antt). A list is named by its index.
 #[derive(Drop)]
 pub struct SlotLists {
-    links: Vec<Link>,
+    links: Vec<SlotLink>,
     ends: Vec<Ends>,
 }
 
@@ -50,7 +50,7 @@ impl SlotLists {
         ensures { self.new ≡ with_list list (list_at list self.old ++ slot ∷ []) self.old }
     {
         let ends = self.ends[list as usize];
-        self.links[slot as usize] = Link {
+        self.links[slot as usize] = SlotLink {
             previous: ends.last,
             next: None,
         };
@@ -91,10 +91,10 @@ impl SlotLists {
 }
 
 /// Links of slots that are in no list.
-fn no_links(alloc: Global, capacity: u32) -> Result<Vec<Link>, NoMemory>
+fn no_links(alloc: Global, capacity: u32) -> Result<Vec<SlotLink>, NoMemory>
     ensures { IfOk result (λ links. links.items ≡ replicate capacity (record { previous = None; next = None })) }
 {
-    let link = Link {
+    let link = SlotLink {
         previous: None,
         next: None,
     };
@@ -113,7 +113,7 @@ fn no_ends(alloc: Global, count: u32) -> Result<Vec<Ends>, NoMemory>
 }
 
 /// Lets another slot come after this one, if there is this one.
-fn set_next(links: &mut Vec<Link>, slot: Option<u32>, next: Option<u32>)
+fn set_next(links: &mut Vec<SlotLink>, slot: Option<u32>, next: Option<u32>)
     requires { IfSome slot (λ s. s < length links.old.items) }
     ensures { links.new.items ≡ with_next slot next links.old.items }
 {
@@ -123,7 +123,7 @@ fn set_next(links: &mut Vec<Link>, slot: Option<u32>, next: Option<u32>)
 }
 
 /// Lets another slot come before this one, if there is this one.
-fn set_previous(links: &mut Vec<Link>, slot: Option<u32>, previous: Option<u32>)
+fn set_previous(links: &mut Vec<SlotLink>, slot: Option<u32>, previous: Option<u32>)
     requires { IfSome slot (λ s. s < length links.old.items) }
     ensures { links.new.items ≡ with_previous slot previous links.old.items }
 {

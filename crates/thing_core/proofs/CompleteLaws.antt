@@ -12,15 +12,15 @@ use Rattle.wot_terms.specs.declared.kind.Kind.TheVariants as kind
 use Rattle.thing_ops.specs.declared.conditions.Conditions.{Conditions}
 use Rattle.thing_ops.specs.declared.outcome.Outcome.{Outcome}
 use Rattle.thing_ops.specs.declared.outcome.Outcome.TheVariants as outcome
-use Rattle.thing_ops.specs.Requests.{PlainRequest}
+use Rattle.thing_ops.specs.Requests.{RequestSeen}
 use Rattle.thing_handler.specs.declared.handler.CallKind.{CallKind}
 use Rattle.thing_handler.specs.declared.handler.CallKind.TheVariants as call
 use Rattle.thing_handler.specs.declared.handler.Answer.TheVariants as answer
 use Rattle.thing_handler.specs.Turns.{HandlerCall, answered, missed}
 use Rattle.thing_site.specs.Site.{Placed, Site, those_of, of_kind}
 use Rattle.thing_core.specs.State.{Status, running, completed, State, Emission, last_of, version_of}
-use Rattle.thing_site.specs.declared.place.Act.{Act}
-use Rattle.thing_site.specs.declared.place.Act.TheVariants.{Describes as describes, ReadsAll as reads_all, WritesMany as writes_many, Reads as reads, Writes as writes, Invokes as invokes, Queries as queries, Cancels as cancels, ReadsEvent as reads_event, Waits as waits}
+use Rattle.thing_site.specs.declared.place.ThingAct.{ThingAct}
+use Rattle.thing_site.specs.declared.place.ThingAct.TheVariants.{Describes as describes, ReadsAll as reads_all, WritesMany as writes_many, Reads as reads, Writes as writes, Invokes as invokes, Queries as queries, Cancels as cancels, ReadsEvent as reads_event, Waits as waits}
 use Rattle.thing_site.specs.Refusals.{Refusal, Input, inputs_of, IsFirst, IsNone}
 use Rattle.thing_core.specs.Refusals.{Asked, refusals, Stands, IsAnsweredWith}
 use Rattle.thing_core.specs.Thing.{Move, Done, outcome_of_read, Called, no_number, no_memory, gives, failure_of, only, Calls, GivesValue, ReadsValue, with_value, is_readable, readable, ReadsEach, SeesWritten, emissions_of_write, Stops, IfDone, WritesEach, IsInvoked, IsQueried, Queries, IsCancelled, Cancels, event_outcome, Performs, refuses, has_no_memory, performs}
@@ -199,7 +199,7 @@ emission_read : (done : Done) (text : Option (List ℕ)) (t : State) → done �
 emission_read done None t e = succeeds (inl (outcome_is done _ e))
 emission_read done (Some text) t e = succeeds (inr (text, outcome_is done _ e))
 
-act_succeeds : (act : Act) (q : PlainRequest) (inputs : List Input) (done : Done) (s t : State) (seen : List HandlerCall) → Performs act q inputs done s seen t
+act_succeeds : (act : ThingAct) (q : RequestSeen) (inputs : List Input) (done : Done) (s t : State) (seen : List HandlerCall) → Performs act q inputs done s seen t
     → inputs_of act q.body ≡ Some inputs → AllByRecursion (AnswersInKind seen) (affordances_of_act act) → Succeeds (IsSuccess act q) done.outcome t
 act_succeeds (describes thing) q inputs done s t seen x given all = succeeds (outcome_is done _ x.0)
 act_succeeds (reads_all thing) q inputs done s t seen x given all =
@@ -226,12 +226,12 @@ none_is_first S A [] o first none = first
 none_is_first S A (r ∷ rs) o (inl stands) none = none.0 stands.0
 none_is_first S A (r ∷ rs) o (inr later) none = none_is_first S A rs o later.1 none.1
 
-pub complete : (site : Site) (q : PlainRequest) → IsComplete site q
+pub complete : (site : Site) (q : RequestSeen) → IsComplete site q
 complete site q act done s t seen (refuses o refused answers) none asked all =
     let a : Asked = record { site = site; state = s; request = q } in
     absurd (none_is_first (λ r. Stands r a) (λ r. IsAnsweredWith r a) refusals o refused none)
 complete site q act done s t seen (has_no_memory answers) none asked all = lacks_memory (outcome_is done _ answers.0)
 complete site q act done s t seen (performs other inputs free found given does) none asked all =
     let same : other ≡ act = same_Some other act (sym found ∙ asked) in
-    act_succeeds act q inputs done s t seen (subst (λ (x : Act). Performs x q inputs done s seen t) same does)
-    (subst (λ (x : Act). inputs_of x q.body ≡ Some inputs) same given) all
+    act_succeeds act q inputs done s t seen (subst (λ (x : ThingAct). Performs x q inputs done s seen t) same does)
+    (subst (λ (x : ThingAct). inputs_of x q.body ≡ Some inputs) same given) all

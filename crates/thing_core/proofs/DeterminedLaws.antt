@@ -15,7 +15,7 @@ use Rattle.thing_ops.specs.declared.allow.Allow.{Allow}
 use Rattle.thing_ops.specs.declared.conditions.Conditions.{Conditions}
 use Rattle.thing_ops.specs.declared.outcome.Outcome.{Outcome}
 use Rattle.thing_ops.specs.declared.outcome.Outcome.TheVariants as outcome
-use Rattle.thing_ops.specs.Requests.{PlainRequest}
+use Rattle.thing_ops.specs.Requests.{RequestSeen}
 use Rattle.thing_ops.specs.Routes.{route_of}
 use Rattle.thing_ops.specs.Verbs.{verbs_in, verbs_of}
 use Rattle.thing_handler.specs.declared.handler.CallKind.{CallKind}
@@ -26,9 +26,9 @@ use Rattle.thing_handler.specs.Turns.{HandlerCall, answered, missed}
 use Rattle.thing_site.specs.Site.{Placed, Site}
 use Rattle.thing_core.specs.State.{Status, running, completed, Invocation, State, Emission, version_of}
 use Rattle.thing_site.specs.Places.{flags_of}
-use Rattle.thing_site.specs.declared.place.Place.{Place}
-use Rattle.thing_site.specs.declared.place.Act.{Act}
-use Rattle.thing_site.specs.declared.place.Act.TheVariants.{Describes as describes, ReadsAll as reads_all, WritesMany as writes_many, Reads as reads, Writes as writes, Invokes as invokes, Queries as queries, Cancels as cancels, ReadsEvent as reads_event, Waits as waits}
+use Rattle.thing_site.specs.declared.place.Resource.{Resource}
+use Rattle.thing_site.specs.declared.place.ThingAct.{ThingAct}
+use Rattle.thing_site.specs.declared.place.ThingAct.TheVariants.{Describes as describes, ReadsAll as reads_all, WritesMany as writes_many, Reads as reads, Writes as writes, Invokes as invokes, Queries as queries, Cancels as cancels, ReadsEvent as reads_event, Waits as waits}
 use Rattle.thing_site.specs.Refusals.{Refusal, nothing_there, verb_not_taken, answer_not_acceptable, format_not_taken, body_not_as_wanted, value_too_large, refused_by_schema, condition_failed, no_invocation_left, Input, Holding, IsFirst, inputs_of}
 use Rattle.thing_core.specs.Refusals.{Asked, place_asked, refusals, Stands, IsAnsweredWith, NoneStands}
 use Rattle.thing_core.specs.Thing.{Move, Done, outcome_of_read, Called, no_number, no_memory, gives, failure_of, Decides, IsTaken, only, Calls, GivesValue, ReadsValue, with_value, Reads, readable, ReadsEach, SeesWritten, emissions_of_write, Stops, IfDone, WritesEach, IsHandedIn, IsInvoked, Invokes, IsQueried, Queries, IsCancelled, Cancels, OnInvocation, Answers, Performs, Acts, refuses, has_no_memory, performs}
@@ -301,7 +301,7 @@ on_invocation answers p id B s each a b calls more t u k l on_calls on_more well
 answer_determined : (answers : ℕ → Answer) (o : Outcome) (s : State) → Determined answers HadMemory (Answers o) s
 answer_determined answers o s a b calls more t u k l on_calls on_more well_a well_b = fixed (only o) a b s [] calls more t u k.0 l.0 k.1 l.1
 
-act_determined : (answers : ℕ → Answer) (act : Act) (q : PlainRequest) (is : List Input) (s : State) → Determined answers HadMemory (Performs act q is) s
+act_determined : (answers : ℕ → Answer) (act : ThingAct) (q : RequestSeen) (is : List Input) (s : State) → Determined answers HadMemory (Performs act q is) s
 act_determined answers (describes thing) q is s = answer_determined answers _ s
 act_determined answers (reads_all thing) q is s = each_determined answers (readable thing) [] s
 act_determined answers (writes_many thing) q is s = written_determined answers is [] s
@@ -340,7 +340,7 @@ allow_is_back a = grind arith
 pub same_verbs : (a b : Allow) → verbs_in a ≡ verbs_in b → a ≡ b
 same_verbs a b e = sym (allow_is_back a) ∙ ap allow_back e ∙ allow_is_back b
 
-one_list : (a b : Allow) (f : Place → List Verb) (place : Option Place) → Holding (λ (x : Place). verbs_in a ≡ f x) place → Holding (λ (x : Place). verbs_in b ≡ f x) place → a ≡ b
+one_list : (a b : Allow) (f : Resource → List Verb) (place : Option Resource) → Holding (λ (x : Resource). verbs_in a ≡ f x) place → Holding (λ (x : Resource). verbs_in b ≡ f x) place → a ≡ b
 one_list a b f None p q = absurd p
 one_list a b f (Some place) p q = same_verbs a b (p ∙ sym q)
 
@@ -371,16 +371,16 @@ out_of_memory done s t calls k had = had (ap (λ (d : Done). d.outcome) k.0)
 refused_isnt_done : (x : Asked) (o : Outcome) → IsFirst (λ r. Stands r x) (λ r. IsAnsweredWith r x) refusals o → ¬ (NoneStands refusals x)
 refused_isnt_done x o refused none = none_is_first (λ r. Stands r x) (λ r. IsAnsweredWith r x) refusals o refused none
 
-request_determined : (answers : ℕ → Answer) (site : Site) (q : PlainRequest) (s : State) → Determined answers HadMemory (Acts site q) s
+request_determined : (answers : ℕ → Answer) (site : Site) (q : RequestSeen) (s : State) → Determined answers HadMemory (Acts site q) s
 request_determined answers site q s a b calls more t u (refuses o refused k) (refuses p also l) on_calls on_more well_a well_b =
     let x : Asked = record { site = site; state = s; request = q } in
     let same : p ≡ o = one_refusal (λ r. Stands r x) x refusals p o also refused in
     answer_determined answers o s a b calls more t u k (subst (λ (y : Outcome). Answers y b s more u) same l) on_calls on_more well_a well_b
 request_determined answers site q s a b calls more t u (performs act is free asked given does) (performs other js none found handed makes) on_calls on_more well_a well_b =
     let act_is : other ≡ act = same_Some other act (sym found ∙ asked) in
-    let inputs_are : js ≡ is = same_Some js is (sym (subst (λ (x : Act). inputs_of x q.body ≡ Some js) act_is handed) ∙ given) in
+    let inputs_are : js ≡ is = same_Some js is (sym (subst (λ (x : ThingAct). inputs_of x q.body ≡ Some js) act_is handed) ∙ given) in
     act_determined answers act q is s a b calls more t u does
-    (subst (λ (x : List Input). Performs act q x b s more u) inputs_are (subst (λ (x : Act). Performs x q js b s more u) act_is makes)) on_calls on_more well_a well_b
+    (subst (λ (x : List Input). Performs act q x b s more u) inputs_are (subst (λ (x : ThingAct). Performs x q js b s more u) act_is makes)) on_calls on_more well_a well_b
 request_determined answers site q s a b calls more t u (refuses o refused k) (performs other js none found handed makes) on_calls on_more well_a well_b =
     absurd (refused_isnt_done (record { site = site; state = s; request = q }) o refused none)
 request_determined answers site q s a b calls more t u (performs act is free asked given does) (refuses p also l) on_calls on_more well_a well_b =
@@ -388,7 +388,7 @@ request_determined answers site q s a b calls more t u (performs act is free ask
 request_determined answers site q s a b calls more t u (has_no_memory k) other on_calls on_more well_a well_b = absurd (out_of_memory a s t calls k well_a)
 request_determined answers site q s a b calls more t u one (has_no_memory l) on_calls on_more well_a well_b = absurd (out_of_memory b s u more l well_b)
 
-pub determined : (site : Site) (q : PlainRequest) → IsDetermined site q
+pub determined : (site : Site) (q : RequestSeen) → IsDetermined site q
 determined site q answers a b s t u calls more k l on_calls on_more well_a well_b =
     let same = request_determined answers site q s a b calls more t u k l on_calls on_more well_a well_b in
     (same.seen, same.result, same.state)

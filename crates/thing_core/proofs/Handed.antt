@@ -9,8 +9,8 @@ use Rattle.wot_json.specs.Reading.{tree_of}
 use Rattle.wot_terms.specs.declared.kind.Kind.{Kind}
 use Rattle.wot_terms.specs.declared.kind.Kind.TheVariants as kind
 use Rattle.thing_site.specs.Site.{Placed, ExposedThing, is_kind, affordance_named}
-use Rattle.thing_site.specs.declared.place.Act.{Act}
-use Rattle.thing_site.specs.declared.place.Act.TheVariants.{Describes as describes, ReadsAll as reads_all, WritesMany as writes_many, Reads as reads, Writes as writes, Invokes as invokes, Queries as queries, Cancels as cancels, ReadsEvent as reads_event, Waits as waits}
+use Rattle.thing_site.specs.declared.place.ThingAct.{ThingAct}
+use Rattle.thing_site.specs.declared.place.ThingAct.TheVariants.{Describes as describes, ReadsAll as reads_all, WritesMany as writes_many, Reads as reads, Writes as writes, Invokes as invokes, Queries as queries, Cancels as cancels, ReadsEvent as reads_event, Waits as waits}
 use Rattle.thing_site.specs.Refusals.{Input, inputs_of, no_inputs, invoke_inputs, object_inputs, member_inputs, only_input, written_property, unless_read_only}
 use Rattle.thing_core.specs.Performing.{affordances_of_act}
 
@@ -69,7 +69,7 @@ invoke_handed : (P : Placed → Type 0) (p : Placed) (schema : Option Json) (bod
 invoke_handed P p None body inputs has e = none_handed P body inputs e
 invoke_handed P p (Some schema) body inputs has e = one_handed P p (tree_of body) inputs has e
 
-pub handed_have : (P : Placed → Type 0) (act : Act) (body : List ℕ) (inputs : List Input) → AllByRecursion P (affordances_of_act act) → inputs_of act body ≡ Some inputs → InputsHave P inputs
+pub handed_have : (P : Placed → Type 0) (act : ThingAct) (body : List ℕ) (inputs : List Input) → AllByRecursion P (affordances_of_act act) → inputs_of act body ≡ Some inputs → InputsHave P inputs
 handed_have P (describes thing) body inputs all e = none_handed P body inputs e
 handed_have P (reads_all thing) body inputs all e = none_handed P body inputs e
 handed_have P (writes_many thing) body inputs all e =

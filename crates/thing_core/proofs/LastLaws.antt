@@ -5,15 +5,15 @@ use Rattle.std.proofs.lemmas.List.{length-map}
 use Rattle.servient_base.specs.Moves.{Then}
 use Rattle.wot_json.specs.Tree.{Json}
 use Rattle.thing_ops.specs.declared.outcome.Outcome.{Outcome}
-use Rattle.thing_ops.specs.Requests.{PlainRequest}
+use Rattle.thing_ops.specs.Requests.{RequestSeen}
 use Rattle.thing_handler.specs.declared.handler.CallKind.{CallKind}
 use Rattle.thing_handler.specs.declared.handler.CallKind.TheVariants as call
 use Rattle.thing_handler.specs.declared.handler.Answer.TheVariants as answer
 use Rattle.thing_handler.specs.Turns.{HandlerCall}
 use Rattle.thing_site.specs.Site.{Placed}
-use Rattle.thing_core.specs.State.{Status, running, completed, State, Emission, Latest, last_after, renewed}
-use Rattle.thing_site.specs.declared.place.Act.{Act}
-use Rattle.thing_site.specs.declared.place.Act.TheVariants.{Describes as describes, ReadsAll as reads_all, WritesMany as writes_many, Reads as reads, Writes as writes, Invokes as invokes, Queries as queries, Cancels as cancels, ReadsEvent as reads_event, Waits as waits}
+use Rattle.thing_core.specs.State.{Status, running, completed, State, Emission, LastValue, last_after, renewed}
+use Rattle.thing_site.specs.declared.place.ThingAct.{ThingAct}
+use Rattle.thing_site.specs.declared.place.ThingAct.TheVariants.{Describes as describes, ReadsAll as reads_all, WritesMany as writes_many, Reads as reads, Writes as writes, Invokes as invokes, Queries as queries, Cancels as cancels, ReadsEvent as reads_event, Waits as waits}
 use Rattle.thing_site.specs.Refusals.{Input}
 use Rattle.thing_core.specs.Thing.{Move, Done, Called, no_number, no_memory, gives, failure_of, Calls, ReadsValue, with_value, ReadsEach, SeesWritten, emissions_of_write, Stops, IfDone, WritesEach, IsInvoked, IsQueried, Queries, IsCancelled, Cancels, Performs, PollsEach}
 use Rattle.thing_core.specs.Performing.{OrMemory}
@@ -47,7 +47,7 @@ reads_keep (p ∷ ps) got done s seen t q =
     after further (Ok value) x = further (got ++ (p.affordance.name, value) ∷ []) x
     after further (Err o) x = same_count q.1.mid t x.1.next
 
-emitted_keep : (es : List Emission) (last : List Latest) → length (last_after es last) ≡ length last
+emitted_keep : (es : List Emission) (last : List LastValue) → length (last_after es last) ≡ length last
 emitted_keep [] last = refl
 emitted_keep (e ∷ es) last = emitted_keep es (map (renewed e) last) ∙ length-map last (renewed e)
 
@@ -96,7 +96,7 @@ cancels_keep p id running done s seen t q =
     cancelled_keeps id done q.0 q.1.mid q.1.second t q.1.other ∙ calls_keep p.slot (call.Cancel id) q.0 s q.1.first q.1.mid q.1.one
 cancels_keep p id (completed output) done s seen t q = ap (λ (y : State). length y.last) q.1.next
 
-performs_keep : (act : Act) (q : PlainRequest) (is : List Input) (done : Done) (s : State) (seen : List HandlerCall) (t : State) → Performs act q is done s seen t → Keeps s t
+performs_keep : (act : ThingAct) (q : RequestSeen) (is : List Input) (done : Done) (s : State) (seen : List HandlerCall) (t : State) → Performs act q is done s seen t → Keeps s t
 performs_keep (describes thing) q is done s seen t x = same_count s t x.1.next
 performs_keep (reads_all thing) q is done s seen t x = reads_keep _ [] done s seen t x
 performs_keep (writes_many thing) q is done s seen t x = writes_keep is [] done s seen t x
@@ -109,7 +109,7 @@ performs_keep (cancels p id) q is done s seen t x = cancels_keep p id x.0.status
 performs_keep (reads_event p) q is done s seen t x = same_count s t x.1.next
 performs_keep (waits p) q is done s seen t x = same_count s t x.1.next
 
-pub act_keeps : (act : Act) (q : PlainRequest) (is : List Input) (done : Done) (s : State) (seen : List HandlerCall) (t : State) → OrMemory (Performs act q is) done s seen t → Keeps s t
+pub act_keeps : (act : ThingAct) (q : RequestSeen) (is : List Input) (done : Done) (s : State) (seen : List HandlerCall) (t : State) → OrMemory (Performs act q is) done s seen t → Keeps s t
 act_keeps act q is done s seen t (inl x) = performs_keep act q is done s seen t x
 act_keeps act q is done s seen t (inr x) = same_count s t x.1.next
 

@@ -5,7 +5,7 @@ use Rattle.std.specs.List.{filter}
 use Rattle.std.proofs.lemmas.List.{append-nil}
 use Rattle.thing_ops.specs.declared.outcome.Outcome.{Outcome}
 use Rattle.thing_ops.specs.declared.outcome.Outcome.TheVariants as outcome
-use Rattle.thing_ops.specs.Requests.{PlainRequest}
+use Rattle.thing_ops.specs.Requests.{RequestSeen}
 use Rattle.thing_handler.specs.Handler.{Seen}
 use Rattle.thing_handler.specs.Turns.{HandlerCall, RackShows}
 use Rattle.thing_handler.proofs.RackLaws.{rack_shows_in_order}
@@ -13,14 +13,14 @@ use Rattle.wot_terms.specs.declared.kind.Kind.TheVariants as kind
 use Rattle.thing_site.specs.Site.{Placed, Site, those_of, events_of, is_emitter, is_kind, of_kind, emitters_of, emitters_of_thing}
 use Rattle.thing_core.specs.Course.{Course}
 use Rattle.thing_core.specs.State.{Emission}
-use Rattle.thing_site.specs.declared.place.Act.{Act}
+use Rattle.thing_site.specs.declared.place.ThingAct.{ThingAct}
 use Rattle.thing_site.specs.Refusals.{Input, inputs_of}
 use Rattle.thing_core.specs.Refusals.{act_asked, refusals, IsRefusedBy, NoneStands}
 use Rattle.thing_core.specs.Thing.{only, Performs, PollsEach, Acts, refuses, has_no_memory, performs}
 use Rattle.thing_core.specs.Performing.{MakesAct, MakesDone, MakesPolls, OrMemory, PollsSome}
 
 -- the act is done
-pub done_makes : (site : Site) (q : PlainRequest) (act : Act) (inputs : List Input) (o : Outcome) (c d : Course) (before after : List Seen) → c.pending ≡ []
+pub done_makes : (site : Site) (q : RequestSeen) (act : ThingAct) (inputs : List Input) (o : Outcome) (c d : Course) (before after : List Seen) → c.pending ≡ []
     → act_asked (record { site = site; state = c.state; request = q }) ≡ Some act → inputs_of act q.body ≡ Some inputs → NoneStands refusals (record { site = site; state = c.state; request = q })
     → MakesDone (OrMemory (Performs act q inputs)) o c d before after
     → MakesAct (record { site = site; state = c.state; pending = c.pending }) (record { site = site; state = d.state; pending = d.pending }) q o before after
@@ -40,7 +40,7 @@ done_makes site q act inputs o c d before after none asked given free k = record
 }
 
 -- the request is refused, or it is out of memory
-pub refusal_makes : (site : Site) (q : PlainRequest) (o : Outcome) (c : Course) (slots : List Seen) → c.pending ≡ []
+pub refusal_makes : (site : Site) (q : RequestSeen) (o : Outcome) (c : Course) (slots : List Seen) → c.pending ≡ []
     → (o ≡ outcome.Memory) ⊎ IsRefusedBy refusals (record { site = site; state = c.state; request = q }) o
     → MakesAct (record { site = site; state = c.state; pending = c.pending }) (record { site = site; state = c.state; pending = c.pending }) q o slots slots
 refusal_makes site q o c slots none refused = record {

@@ -7,7 +7,7 @@ use Rattle.std.proofs.lemmas.List.{at_drop_all, append-nil}
 use Rattle.std.proofs.lemmas.List.Elements.{filter-append}
 use Rattle.std.proofs.lemmas.Option.{same_Some, slice_get_cases}
 use Rattle.wot_terms.specs.declared.kind.Kind.{Kind}
-use Rattle.thing_core.specs.State.{Latest, Version, unseen}
+use Rattle.thing_core.specs.State.{LastValue, Version, unseen}
 use Rattle.wot_terms.specs.declared.kind.Kind.TheVariants as kind
 use Rattle.thing_site.specs.Site.{Placed, affordance_named, is_emitter, is_kind, of_kind}
 use Rattle.thing_core.specs.Thing.{is_readable}
@@ -38,7 +38,7 @@ pub named_further : (k : Kind) (name : List ℕ) (p : Placed) (ps : List Placed)
 named_further k name p ps e = rw e refl
 
 -- one after others among those that may emit
-pub silent_more : (last new : List Latest) (p : Placed) (ps : List Placed) → new ≡ last ++ map silent (filter is_emitter (p ∷ [])) → last ++ map silent (filter is_emitter (p ∷ ps)) ≡ new ++ map silent (filter is_emitter ps)
+pub silent_more : (last new : List LastValue) (p : Placed) (ps : List Placed) → new ≡ last ++ map silent (filter is_emitter (p ∷ [])) → last ++ map silent (filter is_emitter (p ∷ ps)) ≡ new ++ map silent (filter is_emitter ps)
 silent_more last new p ps grown = by_test (is_emitter p) refl
   where
     by_test : (b : Bool) → is_emitter p ≡ b → last ++ map silent (filter is_emitter (p ∷ ps)) ≡ new ++ map silent (filter is_emitter ps)

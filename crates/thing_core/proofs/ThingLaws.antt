@@ -4,7 +4,7 @@ use Rattle.std.specs.Prelude.{Some, slice_get}
 use Rattle.std.specs.List.{AllByRecursion}
 use Rattle.std.proofs.lemmas.Option.{same_Some}
 use Rattle.thing_ops.specs.declared.outcome.Outcome.{Outcome}
-use Rattle.thing_ops.specs.Requests.{PlainRequest}
+use Rattle.thing_ops.specs.Requests.{RequestSeen}
 use Rattle.thing_handler.specs.Handler.{Seen}
 use Rattle.thing_handler.specs.Turns.{RunTurn, HandlerCall, GrewBy}
 use Rattle.thing_site.specs.Site.{Placed, Site}
@@ -17,7 +17,7 @@ use Rattle.thing_core.specs.Kept.{Kept}
 use Rattle.thing_core.specs.Performing.{MakesAct, MakesPolls}
 
 -- a value that its schema refuses reaches no handler
-pub schema_first : (site : Site) (q : PlainRequest) (done : Done) (s t : State) (seen : List HandlerCall) → Acts site q done s seen t
+pub schema_first : (site : Site) (q : RequestSeen) (done : Done) (s t : State) (seen : List HandlerCall) → Acts site q done s seen t
     → Stands refused_by_schema (record { site = site; state = s; request = q }) → (seen ≡ []) × (t ≡ s)
 schema_first site q done s t seen (refuses o refused answers) stands = (answers.1.saw, answers.1.next)
 schema_first site q done s t seen (has_no_memory answers) stands = (answers.1.saw, answers.1.next)
@@ -45,7 +45,7 @@ pub site_stays : (turns : List RunTurn) (before after : List Seen) (site : Site)
 site_stays turns before after [] grew all = tt
 site_stays turns before after (t ∷ site) grew all = (all_stay turns before after t.affordances grew all.0, site_stays turns before after site grew all.1)
 
-pub fits_on : (old new : Kept) (q : PlainRequest) (o : Outcome) (before after : List Seen) → MakesAct old new q o before after → Fits old.site before → Fits new.site after
+pub fits_on : (old new : Kept) (q : RequestSeen) (o : Outcome) (before after : List Seen) → MakesAct old new q o before after → Fits old.site before → Fits new.site after
 fits_on old new q o before after act fits =
     subst (λ (site : Site). Fits site after) (sym act.site) (site_stays _ before after old.site act.made.shows.turns fits)
 

@@ -14,14 +14,14 @@ use Rattle.thing_ops.specs.declared.conditions.Conditions.{Conditions}
 use Rattle.thing_ops.specs.Conditions.{has, fails, fails_to_write, is_missed}
 use Rattle.thing_ops.specs.declared.outcome.Outcome.{Outcome}
 use Rattle.thing_ops.specs.declared.outcome.Outcome.TheVariants as outcome
-use Rattle.thing_ops.specs.Requests.{PlainRequest}
+use Rattle.thing_ops.specs.Requests.{RequestSeen}
 use Rattle.thing_handler.specs.declared.handler.CallKind.{CallKind}
 use Rattle.thing_handler.specs.declared.handler.CallKind.TheVariants as call
 use Rattle.thing_handler.specs.declared.handler.Answer.TheVariants as answer
 use Rattle.thing_handler.specs.Turns.{HandlerCall}
 use Rattle.thing_site.specs.Site.{Placed, Site}
-use Rattle.thing_site.specs.declared.place.Act.{Act}
-use Rattle.thing_site.specs.declared.place.Act.TheVariants.{Reads as reads, Writes as writes}
+use Rattle.thing_site.specs.declared.place.ThingAct.{ThingAct}
+use Rattle.thing_site.specs.declared.place.ThingAct.TheVariants.{Reads as reads, Writes as writes}
 use Rattle.thing_site.specs.Refusals.{Refusal, nothing_there, verb_not_taken, answer_not_acceptable, format_not_taken, body_not_as_wanted, value_too_large, refused_by_schema, condition_failed, no_invocation_left, Holding, IsFirst}
 use Rattle.thing_core.specs.State.{State, Version, is_last_seen, after_text, versions_after, version_of, start, unseen, properties_of}
 use Rattle.thing_core.specs.Refusals.{Asked, act_asked, refusals, IsAnsweredWith, HasFailedCondition, Stands}
@@ -182,7 +182,7 @@ value_shows p c (Ok value) done s seen t tag text is q there sent =
     ∙ ap (option_map (after_text (text_of value))) old.1 in
     (w, now, sym (version_number p.slot t.versions w now) ∙ said.0, text_after old.0.slot old.0.number old.0.text (text_of value) ∙ ap Some said.1)
 
-read_shows : (site : Site) (p : Placed) (q : PlainRequest) (done : Done) (s : State) (seen : List HandlerCall) (t : State) (tag : ℕ) (text : List ℕ)
+read_shows : (site : Site) (p : Placed) (q : RequestSeen) (done : Done) (s : State) (seen : List HandlerCall) (t : State) (tag : ℕ) (text : List ℕ)
     → act_asked (record { site = site; state = s; request = q }) ≡ Some (reads p) → Acts site q done s seen t → IsSome (version_in p.slot s.versions)
     → done.outcome ≡ outcome.Content text (Some tag) → Shows p.slot tag text t
 read_shows site p q done s seen t tag text asked (refuses o refused x) there sent =
@@ -191,7 +191,7 @@ read_shows site p q done s seen t tag text asked (has_no_memory x) there sent =
     absurd (success_isnt outcome.Memory (outcome.Content text (Some tag)) refl refl (sym (ap (λ (d : Done). d.outcome) x.0) ∙ sent))
 read_shows site p q done s seen t tag text asked (performs act inputs none found given does) there sent =
     let same : act ≡ reads p = same_Some act (reads p) (sym found ∙ asked) in
-    let read : Reads p q.conditions done s seen t = subst (λ (x : Act). Performs x q inputs done s seen t) same does in
+    let read : Reads p q.conditions done s seen t = subst (λ (x : ThingAct). Performs x q inputs done s seen t) same does in
     value_shows p q.conditions read.0 done s seen t tag text read.1 read.2 there sent
 
 -- ---- between two moments of a run
@@ -244,7 +244,7 @@ asks_for c tag version asks met = by_test (has (record { any = false; list = tag
     by_test true e = one_listed tag version e
     by_test false e = absurd (met (fails_so c.absent (is_missed c.if_match version) (has c.known version) (missed e)))
 
-write_finds : (site : Site) (p : Placed) (q : PlainRequest) (done : Done) (s : State) (seen : List HandlerCall) (t : State) (tag : ℕ)
+write_finds : (site : Site) (p : Placed) (q : RequestSeen) (done : Done) (s : State) (seen : List HandlerCall) (t : State) (tag : ℕ)
     → act_asked (record { site = site; state = s; request = q }) ≡ Some (writes p) → Acts site q done s seen t → q.conditions.if_match ≡ Some (record { any = false; list = tag ∷ [] })
     → done.outcome ≡ outcome.Changed → tag ≡ version_of p.slot s.versions
 write_finds site p q done s seen t tag asked (refuses o refused x) asks changed =
@@ -253,7 +253,7 @@ write_finds site p q done s seen t tag asked (has_no_memory x) asks changed =
     absurd (success_isnt outcome.Memory outcome.Changed refl refl (sym (ap (λ (d : Done). d.outcome) x.0) ∙ changed))
 write_finds site p q done s seen t tag asked (performs act inputs none found given does) asks changed =
     asks_for q.conditions tag (version_of p.slot s.versions) asks
-    (λ failed. none.1.1.1.1.1.1.1.0 (subst (λ (o : Option Act). Holding (λ (y : Act). HasFailedCondition s q.conditions y) o) (sym asked) failed))
+    (λ failed. none.1.1.1.1.1.1.1.0 (subst (λ (o : Option ThingAct). Holding (λ (y : ThingAct). HasFailedCondition s q.conditions y) o) (sym asked) failed))
 
 pub no_write_is_lost : (site : Site) → NoWriteIsLost site
 no_write_is_lost site p q r read written s t u v deeds between tag text there asked does again sent asks changed =

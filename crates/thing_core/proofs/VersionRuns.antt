@@ -5,7 +5,7 @@ use Rattle.servient_base.specs.Moves.{Then}
 use Rattle.wot_json.specs.Tree.{Json}
 use Rattle.wot_json.specs.Json.{text_of}
 use Rattle.thing_ops.specs.declared.outcome.Outcome.{Outcome}
-use Rattle.thing_ops.specs.Requests.{PlainRequest}
+use Rattle.thing_ops.specs.Requests.{RequestSeen}
 use Rattle.thing_handler.specs.declared.handler.CallKind.{CallKind}
 use Rattle.thing_handler.specs.declared.handler.CallKind.TheVariants as call
 use Rattle.thing_handler.specs.declared.handler.Answer.{Answer}
@@ -13,8 +13,8 @@ use Rattle.thing_handler.specs.declared.handler.Answer.TheVariants as answer
 use Rattle.thing_handler.specs.Turns.{HandlerCall}
 use Rattle.thing_site.specs.Site.{Placed, Site}
 use Rattle.thing_core.specs.State.{Status, running, completed, State, Emission, Version, is_last_seen, after_text, versions_after, version_of}
-use Rattle.thing_site.specs.declared.place.Act.{Act}
-use Rattle.thing_site.specs.declared.place.Act.TheVariants.{Describes as describes, ReadsAll as reads_all, WritesMany as writes_many, Reads as reads, Writes as writes, Invokes as invokes, Queries as queries, Cancels as cancels, ReadsEvent as reads_event, Waits as waits}
+use Rattle.thing_site.specs.declared.place.ThingAct.{ThingAct}
+use Rattle.thing_site.specs.declared.place.ThingAct.TheVariants.{Describes as describes, ReadsAll as reads_all, WritesMany as writes_many, Reads as reads, Writes as writes, Invokes as invokes, Queries as queries, Cancels as cancels, ReadsEvent as reads_event, Waits as waits}
 use Rattle.thing_site.specs.Refusals.{Input}
 use Rattle.thing_core.specs.Thing.{Done, Called, no_number, no_memory, gives, failure_of, most_turns, Calls, GivesValue, ReadsValue, with_value, ReadsEach, SeesWritten, emissions_of_write, Stops, IfDone, WritesEach, IsInvoked, IsQueried, Queries, IsCancelled, Cancels, Performs, Acts, refuses, has_no_memory, performs, PollsEach}
 use Rattle.thing_core.specs.Runs.{Deed, asks, polls, DoesAll, version_in, after_texts, changes, SeesTexts, IsLater}
@@ -239,7 +239,7 @@ cancels_grow p id (completed output) done s seen t q = becomes s t _ q.1.next re
 
 -- ---- acts and polls
 
-performs_grow : (act : Act) (q : PlainRequest) (is : List Input) (done : Done) (s : State) (seen : List HandlerCall) (t : State) → Performs act q is done s seen t → Grows s t
+performs_grow : (act : ThingAct) (q : RequestSeen) (is : List Input) (done : Done) (s : State) (seen : List HandlerCall) (t : State) → Performs act q is done s seen t → Grows s t
 performs_grow (describes thing) q is done s seen t x = stays s t x.1.next
 performs_grow (reads_all thing) q is done s seen t x = reads_grow _ [] done s seen t x
 performs_grow (writes_many thing) q is done s seen t x = writes_grow is [] done s seen t x
@@ -253,7 +253,7 @@ performs_grow (cancels p id) q is done s seen t x = cancels_grow p id x.0.status
 performs_grow (reads_event p) q is done s seen t x = stays s t x.1.next
 performs_grow (waits p) q is done s seen t x = stays s t x.1.next
 
-pub acts_grow : (site : Site) (q : PlainRequest) (done : Done) (s : State) (seen : List HandlerCall) (t : State) → Acts site q done s seen t → Grows s t
+pub acts_grow : (site : Site) (q : RequestSeen) (done : Done) (s : State) (seen : List HandlerCall) (t : State) → Acts site q done s seen t → Grows s t
 acts_grow site q done s seen t (refuses o refused x) = stays s t x.1.next
 acts_grow site q done s seen t (has_no_memory x) = stays s t x.1.next
 acts_grow site q done s seen t (performs act is none asked given x) = performs_grow act q is done s seen t x

@@ -8,7 +8,7 @@ use Rattle.wot_json.specs.declared.tree.Tree.{Tree}
 use Rattle.thing_ops.specs.declared.outcome.Outcome.{Outcome}
 use Rattle.thing_ops.specs.declared.outcome.Outcome.TheVariants as outcome
 use Rattle.thing_ops.specs.declared.conditions.Conditions.{Conditions}
-use Rattle.thing_ops.specs.Requests.{PlainRequest}
+use Rattle.thing_ops.specs.Requests.{RequestSeen}
 use Rattle.thing_handler.specs.declared.handler.CallKind.{CallKind}
 use Rattle.thing_handler.specs.declared.handler.CallKind.TheVariants as call
 use Rattle.thing_handler.specs.declared.handler.Answer.{Answer}
@@ -16,8 +16,8 @@ use Rattle.thing_handler.specs.declared.handler.Answer.TheVariants as answer
 use Rattle.thing_handler.specs.Turns.{HandlerCall, answered, missed}
 use Rattle.thing_site.specs.Site.{Placed, Site}
 use Rattle.thing_core.specs.State.{State}
-use Rattle.thing_site.specs.declared.place.Act.{Act}
-use Rattle.thing_site.specs.declared.place.Act.TheVariants as act
+use Rattle.thing_site.specs.declared.place.ThingAct.{ThingAct}
+use Rattle.thing_site.specs.declared.place.ThingAct.TheVariants as act
 use Rattle.thing_core.specs.Refusals.{act_asked, refusals, NoneStands}
 use Rattle.thing_core.specs.Thing.{Done, IsTaken, Acts, most_turns, read_outcome}
 use Rattle.thing_core.specs.Performing.{affordances_of_act}
@@ -66,7 +66,7 @@ IsInvocation o =
     ⊎ (((text : List ℕ) × (o ≡ outcome.Output text)) ⊎ ((place : List (List ℕ)) × (text : List ℕ) × (o ≡ outcome.Started place text)))
 
 -- the outcome of each act where it succeeds, by the table of acts
-abbrev pub IsSuccess : Act → PlainRequest → Outcome → Type 0
+abbrev pub IsSuccess : ThingAct → RequestSeen → Outcome → Type 0
 IsSuccess (act.Describes thing) q o = o ≡ outcome.Description (text_of thing.description) q.accept.td
 IsSuccess (act.ReadsAll thing) q o = IsContent o
 IsSuccess (act.WritesMany thing) q o = o ≡ outcome.Changed
@@ -86,9 +86,9 @@ pub data Succeeds (S : Outcome → Type 0) (o : Outcome) (t : State) : Type 0 wh
 
 -- Where no refusal holds of a request, and the handlers that its act may call answer in kind, its outcome is the
 -- success of its act; or it is out of memory, or the run has no number left for a turn.
-abbrev pub IsComplete : Site → PlainRequest → Type 0
+abbrev pub IsComplete : Site → RequestSeen → Type 0
 IsComplete site q =
-    (act : Act) (done : Done) (s t : State) (seen : List HandlerCall) → Acts site q done s seen t
+    (act : ThingAct) (done : Done) (s t : State) (seen : List HandlerCall) → Acts site q done s seen t
     → NoneStands refusals (record { site = site; state = s; request = q })
     → act_asked (record { site = site; state = s; request = q }) ≡ Some act
     → AllByRecursion (AnswersInKind seen) (affordances_of_act act)

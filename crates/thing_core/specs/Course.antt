@@ -4,7 +4,7 @@ use Rattle.std.specs.Coded.{Coded, code_by, coded×, coded_ℕ, coded_list, code
 use Rattle.thing_core.specs.declared.state.Progress.{Progress}
 use Rattle.thing_core.specs.declared.state.Progress.TheVariants as progress
 use Rattle.thing_site.specs.Refusals.{longest_value}
-use Rattle.thing_core.specs.State.{Status, running, completed, Invocation, Latest, Version, State, version_of}
+use Rattle.thing_core.specs.State.{Status, running, completed, Invocation, LastValue, Version, State, version_of}
 
 -- the state of the machine, the targets of emissions that weren't handed out yet, and how many more of these can be
 -- kept without taking memory
@@ -61,7 +61,7 @@ invocation_code =
 abbrev LatestParts : Type 0
 LatestParts = ℕ × Option (List ℕ)
 
-abbrev pub latest_code : Coded Latest
+abbrev pub latest_code : Coded LastValue
 latest_code =
     code_by LatestParts (coded× coded_ℕ (coded_option (coded_list coded_ℕ))) (λ l. (l.target, l.text))
     (λ q. record { target = q.0; text = q.1 }) (λ _. refl)
@@ -75,7 +75,7 @@ version_code =
     (λ q. record { slot = q.0; number = q.1.0; text = q.1.1 }) (λ _. refl)
 
 abbrev StateParts : Type 0
-StateParts = List Version × (List Invocation × (ℕ × (List Latest × ℕ)))
+StateParts = List Version × (List Invocation × (ℕ × (List LastValue × ℕ)))
 
 abbrev pub state_code : Coded State
 state_code =

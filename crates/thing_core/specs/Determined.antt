@@ -1,7 +1,7 @@
 -- The outcome of a request is determined by the state, the request, and what the handlers answer.
 use Rattle.std.specs.Prelude.{◌≡◌, ◌≢◌, ℕ, List, [], ◌∷◌}
 use Rattle.thing_ops.specs.declared.outcome.Outcome.TheVariants as outcome
-use Rattle.thing_ops.specs.Requests.{PlainRequest}
+use Rattle.thing_ops.specs.Requests.{RequestSeen}
 use Rattle.thing_handler.specs.declared.handler.Answer.{Answer}
 use Rattle.thing_handler.specs.Turns.{HandlerCall, answered, missed}
 use Rattle.thing_site.specs.Site.{Site}
@@ -20,7 +20,7 @@ HadMemory done = done.outcome ≢ outcome.Memory
 
 -- One request is done twice from one state, with the same answers and never out of memory: then its calls, its outcome,
 -- what it emits and the state afterwards are the same.
-abbrev pub IsDetermined : Site → PlainRequest → Type 0
+abbrev pub IsDetermined : Site → RequestSeen → Type 0
 IsDetermined site q =
     (answers : ℕ → Answer) (done other : Done) (s t u : State) (calls more : List HandlerCall)
     → Acts site q done s calls t → Acts site q other s more u → AreAnsweredBy answers calls → AreAnsweredBy answers more → HadMemory done → HadMemory other

@@ -9,7 +9,7 @@ use Rattle.wot_json.specs.declared.tree.Tree.{Tree}
 use Rattle.thing_ops.specs.declared.outcome.Outcome.{Outcome}
 use Rattle.thing_ops.specs.declared.outcome.Outcome.TheVariants as outcome
 use Rattle.thing_ops.specs.declared.conditions.Conditions.{Conditions}
-use Rattle.thing_ops.specs.Requests.{PlainRequest}
+use Rattle.thing_ops.specs.Requests.{RequestSeen}
 use Rattle.thing_handler.specs.declared.handler.CallKind.{CallKind}
 use Rattle.thing_handler.specs.declared.handler.Answer.{Answer}
 use Rattle.thing_handler.specs.declared.handler.Answer.TheVariants as answer
@@ -19,8 +19,8 @@ use Rattle.thing_core.specs.declared.admitting.Task.{Task}
 use Rattle.thing_site.specs.Site.{Placed}
 use Rattle.thing_core.specs.State.{State, Emission, Invocation, completed, running, status_text, invocation_named, running_count, most_invocations}
 use Rattle.thing_core.specs.Course.{Course, HasRoom}
-use Rattle.thing_site.specs.declared.place.Act.{Act}
-use Rattle.thing_site.specs.declared.place.Act.TheVariants as act
+use Rattle.thing_site.specs.declared.place.ThingAct.{ThingAct}
+use Rattle.thing_site.specs.declared.place.ThingAct.TheVariants as act
 use Rattle.thing_site.specs.Refusals.{Input, longest_value, inputs_of, IsAnswer, IsFirst, IsNone}
 use Rattle.thing_core.specs.Refusals.{Asked, HasFailedCondition, HasNoInvocationLeft, act_asked, refusals, refusals_of_acts, StandsAgainst, IsRefusedBy, NoneStands}
 use Rattle.thing_core.specs.Thing.{Move, Done, only, Called, no_number, no_memory, gives, Calls, Decides, IsTaken, GivesValue, Answers, WritesEach, ReadsEach, PollsEach, Polls, emissions_of_write, place_of_invocation, IsInvoked, IsQueried, IsCancelled, Acts}
@@ -29,17 +29,17 @@ use Rattle.thing_core.specs.Kept.{Kept}
 -- ---- judging a request
 
 -- nothing is against an act, and this is handed in
-abbrev pub IsFree : Act → State → PlainRequest → List Input → Type 0
+abbrev pub IsFree : ThingAct → State → RequestSeen → List Input → Type 0
 IsFree act s q inputs = (inputs_of act q.body ≡ Some inputs) × IsNone (λ r. StandsAgainst r act s q) refusals_of_acts
 
 -- an act is refused as things stand
-abbrev pub IsRefusedByState : State → Conditions → Act → Outcome → Type 0
+abbrev pub IsRefusedByState : State → Conditions → ThingAct → Outcome → Type 0
 IsRefusedByState s c act o =
     (HasFailedCondition s c act × (o ≡ outcome.PreconditionFailed))
     ⊎ ((¬ (HasFailedCondition s c act)) × HasNoInvocationLeft s act × (o ≡ outcome.InvocationsFull))
 
 -- an act is refused, or it is out of memory
-abbrev pub IsActRefused : Act → State → PlainRequest → Outcome → Type 0
+abbrev pub IsActRefused : ThingAct → State → RequestSeen → Outcome → Type 0
 IsActRefused act s q o = (o ≡ outcome.Memory) ⊎ IsFirst (λ r. StandsAgainst r act s q) IsAnswer refusals_of_acts o
 
 -- a request is admitted, with its act and what is handed in; or it is refused, or out of memory
@@ -57,7 +57,7 @@ abbrev pub AllStand : ℕ → List Placed → Type 0
 AllStand count ps = AllByRecursion (λ p. p.slot < count) ps
 
 -- the affordances that an act may call the handlers of
-abbrev pub affordances_of_act : Act → List Placed
+abbrev pub affordances_of_act : ThingAct → List Placed
 affordances_of_act (act.Describes thing) = []
 affordances_of_act (act.ReadsAll thing) = thing.affordances
 affordances_of_act (act.WritesMany thing) = thing.affordances
@@ -226,7 +226,7 @@ IsTold found id (Err room) = IfSome found (λ i. i.status ≡ running) × (room 
 
 -- the demands of an act on the state: the invocation that it is about is there, and where it begins one, a further one
 -- may run
-abbrev pub MayBeDone : Act → State → Type 0
+abbrev pub MayBeDone : ThingAct → State → Type 0
 MayBeDone (act.Invokes p) s = running_count s.invocations < most_invocations
 MayBeDone (act.Queries p id) s = IsSome (invocation_named p.slot id s.invocations)
 MayBeDone (act.Cancels p id) s = IsSome (invocation_named p.slot id s.invocations)
@@ -235,7 +235,7 @@ MayBeDone act s = Unit {0}
 -- ---- the outcome of a call
 
 -- a request was performed: a move of the Thing machine; its emissions wait to be handed out
-pub record MakesAct (old new : Kept) (q : PlainRequest) (o : Outcome) (before after : List Seen) : Type 0 where
+pub record MakesAct (old new : Kept) (q : RequestSeen) (o : Outcome) (before after : List Seen) : Type 0 where
   pub done : Done
   pub outcome : done.outcome ≡ o
   pub pending : new.pending ≡ map (λ e. e.target) done.emissions

@@ -5,14 +5,14 @@ use Rattle.thing_ops.specs.declared.outcome.Outcome.TheVariants as outcome
 use Rattle.thing_ops.specs.declared.allow.Allow.{Allow}
 use Rattle.thing_ops.specs.declared.conditions.Conditions.{Conditions}
 use Rattle.thing_ops.specs.Conditions.{fails_to_write}
-use Rattle.thing_ops.specs.Requests.{PlainRequest}
+use Rattle.thing_ops.specs.Requests.{RequestSeen}
 use Rattle.thing_ops.specs.Routes.{route_of}
 use Rattle.thing_ops.specs.Verbs.{verbs_in, verbs_of}
 use Rattle.thing_site.specs.Site.{Site}
 use Rattle.thing_site.specs.Places.{act_at, flags_of}
-use Rattle.thing_site.specs.declared.place.Place.{Place}
-use Rattle.thing_site.specs.declared.place.Act.{Act}
-use Rattle.thing_site.specs.declared.place.Act.TheVariants as act
+use Rattle.thing_site.specs.declared.place.Resource.{Resource}
+use Rattle.thing_site.specs.declared.place.ThingAct.{ThingAct}
+use Rattle.thing_site.specs.declared.place.ThingAct.TheVariants as act
 use Rattle.thing_site.specs.Refusals.{Refusal, nothing_there, verb_not_taken, condition_failed, no_invocation_left, refusals_by_request, Holding, StandsByRequest, IsAnswer, IsFirst, IsNone}
 use Rattle.thing_core.specs.State.{State, running_count, most_invocations, version_of}
 use Rattle.thing_core.specs.Places.{place_of}
@@ -20,12 +20,12 @@ use Rattle.thing_core.specs.Places.{place_of}
 -- A property would be written whose version isn't what the request asks for. Its version before the call counts, so
 -- that a client that read it first loses nobody's write (RFC 9110, section 13.1.1). Of all else that is written no
 -- condition is looked at, and one property's read is judged after its call.
-abbrev pub HasFailedCondition : State → Conditions → Act → Type 0
+abbrev pub HasFailedCondition : State → Conditions → ThingAct → Type 0
 HasFailedCondition s c (act.Writes p) = IsTrue (fails_to_write c (version_of p.slot s.versions))
 HasFailedCondition s c act = ⊥
 
 -- as many invocations run as may
-abbrev pub HasNoInvocationLeft : State → Act → Type 0
+abbrev pub HasNoInvocationLeft : State → ThingAct → Type 0
 HasNoInvocationLeft s (act.Invokes p) = most_invocations ≤ running_count s.invocations
 HasNoInvocationLeft s act = ⊥
 
@@ -35,12 +35,12 @@ HasNoInvocationLeft s act = ⊥
 pub record Asked : Type 0 where
   pub site : Site
   pub state : State
-  pub request : PlainRequest
+  pub request : RequestSeen
 
-abbrev pub place_asked : Asked → Option Place
+abbrev pub place_asked : Asked → Option Resource
 place_asked a = place_of a.request.path a.site a.state.invocations
 
-abbrev pub act_asked : Asked → Option Act
+abbrev pub act_asked : Asked → Option ThingAct
 act_asked a = option_and_then (λ place. act_at (route_of a.request.path) place a.request.verb) (place_asked a)
 
 -- Those against an act that is there, apart from the two before it: code that judges an act says what it finds of that
@@ -53,7 +53,7 @@ abbrev pub refusals : List Refusal
 refusals = nothing_there ∷ verb_not_taken ∷ refusals_of_acts
 
 -- each of them holds of an act that is asked for
-abbrev pub StandsAgainst : Refusal → Act → State → PlainRequest → Type 0
+abbrev pub StandsAgainst : Refusal → ThingAct → State → RequestSeen → Type 0
 -- a property would be written that isn't of a version that the request asks for
 StandsAgainst condition_failed act s q = HasFailedCondition s q.conditions act
 -- an action would be invoked, and no further invocation may run

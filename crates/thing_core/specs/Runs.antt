@@ -4,11 +4,11 @@ use Rattle.std.specs.Prelude.{◌≡◌, ◌≤◌, ℕ, ◌+◌, ◌==◌, List
 use Rattle.std.specs.List.{AllByRecursion}
 use Rattle.servient_base.specs.Moves.{Each}
 use Rattle.thing_ops.specs.declared.outcome.Outcome.TheVariants as outcome
-use Rattle.thing_ops.specs.Requests.{PlainRequest}
+use Rattle.thing_ops.specs.Requests.{RequestSeen}
 use Rattle.thing_handler.specs.Turns.{HandlerCall}
 use Rattle.thing_site.specs.Site.{Placed, Site}
-use Rattle.thing_site.specs.declared.place.Act.{Act}
-use Rattle.thing_site.specs.declared.place.Act.TheVariants as act
+use Rattle.thing_site.specs.declared.place.ThingAct.{ThingAct}
+use Rattle.thing_site.specs.declared.place.ThingAct.TheVariants as act
 use Rattle.thing_core.specs.State.{State, Emission, Version, is_last_seen, after_text, start, properties_of, version_of}
 use Rattle.thing_core.specs.Refusals.{act_asked}
 use Rattle.thing_core.specs.Thing.{Move, Done, Acts, Polls, most_turns}
@@ -17,7 +17,7 @@ use Rattle.thing_core.specs.Thing.{Move, Done, Acts, Polls, most_turns}
 
 -- a request with what came of it, or a poll of all events with what it emitted
 pub data Deed : Type 0 where
-  asks : PlainRequest → Done → Deed
+  asks : RequestSeen → Done → Deed
   polls : List Emission → Deed
 
 abbrev pub Does : Site → Deed → Move
@@ -78,7 +78,7 @@ VersionsAreFew site = (s : State) → IsReached site s → (slot : ℕ) → (ver
 -- ---- reads and writes of one property
 
 -- a request was made, and this came of it
-pub record IsAsked (site : Site) (q : PlainRequest) (act : Act) (done : Done) (s t : State) : Type 0 where
+pub record IsAsked (site : Site) (q : RequestSeen) (act : ThingAct) (done : Done) (s t : State) : Type 0 where
   pub asked : act_asked (record { site = site; state = s; request = q }) ≡ Some act
   pub seen : List HandlerCall
   pub move : Acts site q done s seen t
@@ -86,7 +86,7 @@ pub record IsAsked (site : Site) (q : PlainRequest) (act : Act) (done : Done) (s
 -- Two reads of one property in a run, whatever is done between them: what they send with one tag is one text.
 abbrev pub SameTagSameText : Site → Type 0
 SameTagSameText site =
-    (p : Placed) (q r : PlainRequest) (one other : Done) (s t u v : State) (deeds : List Deed) (between : List HandlerCall) (tag : ℕ) (text further : List ℕ)
+    (p : Placed) (q r : RequestSeen) (one other : Done) (s t u v : State) (deeds : List Deed) (between : List HandlerCall) (tag : ℕ) (text further : List ℕ)
     → IsSome (version_in p.slot s.versions)
     → IsAsked site q (act.Reads p) one s t → DoesAll site deeds t between u → IsAsked site r (act.Reads p) other u v
     → one.outcome ≡ outcome.Content text (Some tag) → other.outcome ≡ outcome.Content further (Some tag) → text ≡ further
@@ -94,13 +94,13 @@ SameTagSameText site =
 -- A tag is at least 1.
 abbrev pub TagsAreSeen : Site → Type 0
 TagsAreSeen site =
-    (p : Placed) (q : PlainRequest) (done : Done) (s t : State) (tag : ℕ) (text : List ℕ) → IsReached site s → IsSome (version_in p.slot s.versions)
+    (p : Placed) (q : RequestSeen) (done : Done) (s t : State) (tag : ℕ) (text : List ℕ) → IsReached site s → IsSome (version_in p.slot s.versions)
     → IsAsked site q (act.Reads p) done s t → done.outcome ≡ outcome.Content text (Some tag) → 1 ≤ tag
 
 -- No write is lost: one that was done and asks for the version that was read found the property as it was read.
 abbrev pub NoWriteIsLost : Site → Type 0
 NoWriteIsLost site =
-    (p : Placed) (q r : PlainRequest) (read written : Done) (s t u v : State) (deeds : List Deed) (between : List HandlerCall) (tag : ℕ) (text : List ℕ)
+    (p : Placed) (q r : RequestSeen) (read written : Done) (s t u v : State) (deeds : List Deed) (between : List HandlerCall) (tag : ℕ) (text : List ℕ)
     → IsSome (version_in p.slot s.versions)
     → IsAsked site q (act.Reads p) read s t → DoesAll site deeds t between u → IsAsked site r (act.Writes p) written u v
     → read.outcome ≡ outcome.Content text (Some tag) → r.conditions.if_match ≡ Some (record { any = false; list = tag ∷ [] })

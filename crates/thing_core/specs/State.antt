@@ -74,19 +74,19 @@ pub record Emission : Type 0 where
   pub text : List ℕ
 
 -- the last value that an affordance emitted, where it did: the slot of the affordance, and the value's text
-pub record Latest : Type 0 where
+pub record LastValue : Type 0 where
   pub target : ℕ
   pub text : Option (List ℕ)
 
-abbrev pub last_of : ℕ → List Latest → Option (List ℕ)
+abbrev pub last_of : ℕ → List LastValue → Option (List ℕ)
 last_of target [] = None
 last_of target (l ∷ last) = if l.target == target then l.text else last_of target last
 
-abbrev pub renewed : Emission → Latest → Latest
+abbrev pub renewed : Emission → LastValue → LastValue
 renewed e l = if l.target == e.target then record l { text = Some e.text } else l
 
 -- after these emissions, one after another
-abbrev pub last_after : List Emission → List Latest → List Latest
+abbrev pub last_after : List Emission → List LastValue → List LastValue
 last_after [] last = last
 last_after (e ∷ emissions) last = last_after emissions (map (renewed e) last)
 
@@ -127,10 +127,10 @@ pub record State : Type 0 where
   pub versions : List Version
   pub invocations : List Invocation
   pub next_invocation : ℕ
-  pub last : List Latest
+  pub last : List LastValue
   pub turns : ℕ
 
-abbrev pub silent : Placed → Latest
+abbrev pub silent : Placed → LastValue
 silent p = record { target = p.slot; text = None }
 
 -- all properties, in the order of Things and names

@@ -13,7 +13,7 @@ use Rattle.thing_ops.specs.declared.conditions.Conditions.{Conditions}
 use Rattle.thing_ops.specs.declared.outcome.Outcome.{Outcome}
 use Rattle.thing_ops.specs.declared.outcome.Outcome.TheVariants as outcome
 use Rattle.thing_ops.specs.Conditions.{fails, has}
-use Rattle.thing_ops.specs.Requests.{PlainRequest}
+use Rattle.thing_ops.specs.Requests.{RequestSeen}
 use Rattle.thing_handler.specs.declared.handler.CallKind.{CallKind}
 use Rattle.thing_handler.specs.declared.handler.CallKind.TheVariants as call
 use Rattle.thing_handler.specs.declared.handler.Answer.{Answer}
@@ -21,8 +21,8 @@ use Rattle.thing_handler.specs.declared.handler.Answer.TheVariants as answer
 use Rattle.thing_handler.specs.Turns.{HandlerCall, answered, missed}
 use Rattle.thing_site.specs.Site.{Placed, ExposedThing, Site, those_of, events_of}
 use Rattle.thing_core.specs.State.{Status, running, completed, Invocation, State, Emission, invocation_named, without_invocation, with_completed, with_running, status_text, last_of, last_after, versions_after, version_of}
-use Rattle.thing_site.specs.declared.place.Act.{Act}
-use Rattle.thing_site.specs.declared.place.Act.TheVariants as act
+use Rattle.thing_site.specs.declared.place.ThingAct.{ThingAct}
+use Rattle.thing_site.specs.declared.place.ThingAct.TheVariants as act
 use Rattle.thing_site.specs.Refusals.{Input, IsAccepted, longest_value, inputs_of}
 use Rattle.thing_core.specs.Refusals.{act_asked, refusals, IsRefusedBy, NoneStands}
 
@@ -257,7 +257,7 @@ abbrev pub Answers : Outcome → Done → Move
 Answers o done s seen t = (done ≡ only o) × Stays s seen t
 
 -- The effect of each act, with these inputs: the table of acts.
-abbrev pub Performs : Act → PlainRequest → List Input → Done → Move
+abbrev pub Performs : ThingAct → RequestSeen → List Input → Done → Move
 Performs (act.Describes thing) q inputs done s seen t = Answers (outcome.Description (text_of thing.description) q.accept.td) done s seen t
 Performs (act.ReadsAll thing) q inputs done s seen t = ReadsEach (readable thing) [] done s seen t
 Performs (act.WritesMany thing) q inputs done s seen t = WritesEach inputs [] done s seen t
@@ -270,14 +270,14 @@ Performs (act.ReadsEvent p) q inputs done s seen t = Answers (event_outcome (las
 Performs (act.Waits p) q inputs done s seen t = Answers (outcome.Wait p.slot) done s seen t
 
 -- A request to Things, and its outcome.
-pub data Acts (site : Site) (q : PlainRequest) (done : Done) (s : State) (seen : List HandlerCall) (t : State) : Type 0 where
+pub data Acts (site : Site) (q : RequestSeen) (done : Done) (s : State) (seen : List HandlerCall) (t : State) : Type 0 where
   -- the first refusal that holds decides, and no handler is called
   refuses : (o : Outcome) → IsRefusedBy refusals (record { site = site; state = s; request = q }) o → Answers o done s seen t
       → Acts site q done s seen t
   -- it may be out of memory before the first call of a handler
   has_no_memory : Answers outcome.Memory done s seen t → Acts site q done s seen t
   -- none holds, and the act is done
-  performs : (act : Act) → (inputs : List Input) → NoneStands refusals (record { site = site; state = s; request = q })
+  performs : (act : ThingAct) → (inputs : List Input) → NoneStands refusals (record { site = site; state = s; request = q })
       → act_asked (record { site = site; state = s; request = q }) ≡ Some act → inputs_of act q.body ≡ Some inputs
       → Performs act q inputs done s seen t → Acts site q done s seen t
 

@@ -2,7 +2,7 @@
 
 ghost use Rattle.std.specs.Prelude.{◌≡◌, ◌≤◌, length, map, option_map, IfSome};
 ghost use Rattle.wot_json.specs.Json.{text_of as text_of_value};
-ghost use Rattle.thing_ops.specs.Requests.{plain_request};
+ghost use Rattle.thing_ops.specs.Requests.{request_seen};
 ghost use Rattle.thing_core.specs.State.{last_of};
 ghost use Rattle.thing_core.specs.Thing.{event_outcome, Performs};
 ghost use Rattle.thing_site.specs.Refusals.{longest_value};
@@ -12,13 +12,13 @@ use crate::admitting::Task;
 use crate::invoking::{cancel, invoke, prepare, query};
 use crate::machine::Machine;
 use crate::reading::{read, read_all};
-use crate::state::Latest;
+use crate::state::LastValue;
 use crate::writing::write_each;
 use servient_base::Target;
 use std::alloc::Global;
 use thing_handler::Handlers;
 use thing_ops::{Outcome, Request};
-use thing_site::{Act, HeldThing};
+use thing_site::{HeldThing, ThingAct};
 use wot_json::{Bytes, text_of};
 
 /// Does an act.
@@ -32,26 +32,26 @@ pub fn act<R: Handlers>(
     requires slots { AllStand (length (R.slots rack.old)) (affordances_of_act task.act) }
     requires inputs { InputsFit (length (R.slots rack.old)) task.inputs.items }
     requires state { MayBeDone task.act machine.old.state }
-    ensures { MakesDone (OrMemory (Performs task.entry.act (plain_request request.now) task.entry.inputs.items)) result machine.old machine.new (R.slots rack.old) (R.slots rack.new) }
+    ensures { MakesDone (OrMemory (Performs task.entry.act (request_seen request.now) task.entry.inputs.items)) result machine.old machine.new (R.slots rack.old) (R.slots rack.new) }
 {
     let Task { act, inputs } = task;
     match act {
-        Act::Describes(thing) => describe(alloc, thing.thing(), request.accept.td),
-        Act::ReadsAll(thing) => read_all(alloc, thing.thing(), machine, rack),
-        Act::Reads(spot) => read(alloc, spot, &request.conditions, machine, rack),
-        Act::WritesMany(_) => write_each(inputs, machine, rack),
-        Act::Writes(_) => write_each(inputs, machine, rack),
-        Act::Invokes(spot) => match prepare(alloc, &request.path, machine.next_invocation()) {
+        ThingAct::Describes(thing) => describe(alloc, thing.thing(), request.accept.td),
+        ThingAct::ReadsAll(thing) => read_all(alloc, thing.thing(), machine, rack),
+        ThingAct::Reads(spot) => read(alloc, spot, &request.conditions, machine, rack),
+        ThingAct::WritesMany(_) => write_each(inputs, machine, rack),
+        ThingAct::Writes(_) => write_each(inputs, machine, rack),
+        ThingAct::Invokes(spot) => match prepare(alloc, &request.path, machine.next_invocation()) {
             Ok(prepared) => invoke(spot, inputs, prepared, machine, rack),
             Err(_) => Outcome::Memory,
         },
-        Act::Queries(spot, id) => query(alloc, spot, id, machine, rack),
-        Act::Cancels(spot, id) => cancel(spot, id, machine, rack),
-        Act::ReadsEvent(spot) => {
+        ThingAct::Queries(spot, id) => query(alloc, spot, id, machine, rack),
+        ThingAct::Cancels(spot, id) => cancel(spot, id, machine, rack),
+        ThingAct::ReadsEvent(spot) => {
             let event = spot.slot();
             last_emission(alloc, machine.last(), event)
         }
-        Act::Waits(spot) => {
+        ThingAct::Waits(spot) => {
             let target = spot.slot();
             Outcome::Wait(target)
         }
@@ -69,7 +69,7 @@ fn describe(alloc: Global, thing: &HeldThing, td: bool) -> Outcome
 }
 
 /// The last emission of an event.
-fn last_emission(alloc: Global, last: &[Latest], target: Target) -> Outcome
+fn last_emission(alloc: Global, last: &[LastValue], target: Target) -> Outcome
     ensures { IsOrMemory (event_outcome (last_of target last.now)) result }
 {
     match last_in(last, target) {
@@ -82,7 +82,7 @@ fn last_emission(alloc: Global, last: &[Latest], target: Target) -> Outcome
 }
 
 /// The text of the last emission of this target, among these.
-pub fn last_in(last: &[Latest], target: Target) -> Option<&[u8]>
+pub fn last_in(last: &[LastValue], target: Target) -> Option<&[u8]>
     ensures text { option_map (λ t. t.now) result ≡ last_of target last.now }
     ensures length { IfSome result (λ t. length t.now ≤ longest_value) }
 {

@@ -1,7 +1,7 @@
 //! The refusals of a request before any handler is called.
 
 ghost use Rattle.std.specs.Prelude.{◌≡◌, MatchOption, count_by};
-ghost use Rattle.thing_ops.specs.Requests.{plain_request};
+ghost use Rattle.thing_ops.specs.Requests.{request_seen};
 ghost use Rattle.thing_core.specs.State as state;
 ghost use Rattle.thing_core.specs.Refusals as refusal;
 ghost use Rattle.thing_core.specs.Performing.{IsAdmitted, IsRefusedByState};
@@ -11,12 +11,12 @@ use crate::standing::place_of;
 use crate::state::{Invocation, MOST_INVOCATIONS};
 use std::alloc::Global;
 use thing_ops::{Conditions, Outcome, Request, route};
-use thing_site::{Act, IndexedThings, Input, act_at, judge};
+use thing_site::{IndexedThings, Input, ThingAct, act_at, judge};
 
 /// An act to do, with what is handed in to it.
 #[derive(Drop)]
 pub struct Task<'a> {
-    pub act: Act<'a>,
+    pub act: ThingAct<'a>,
     pub inputs: Vec<Input<'a>>,
 }
 
@@ -27,7 +27,7 @@ pub fn admitted<'a>(
     machine: &Machine,
     request: &Request<'_>,
 ) -> Result<Task<'a>, Outcome>
-    ensures { IsAdmitted (record { site = things.now; state = machine.now.state; request = plain_request request.now }) result }
+    ensures { IsAdmitted (record { site = things.now; state = machine.now.state; request = request_seen request.now }) result }
 {
     // Matches and not `?`, since the proof of each refusal names its arm.
     let place = match place_of(things, machine.invocations(), &request.path) {
@@ -50,20 +50,24 @@ pub fn admitted<'a>(
 
 /// The refusal of an act as things stand: a property would be written that isn't of a version that the request asks
 /// for, or an action would be invoked, and no further invocation may run.
-fn refusal_by_state(act: &Act<'_>, machine: &Machine, conditions: &Conditions) -> Option<Outcome>
+fn refusal_by_state(
+    act: &ThingAct<'_>,
+    machine: &Machine,
+    conditions: &Conditions,
+) -> Option<Outcome>
     ensures { MatchOption result
         ((¬ (refusal.HasFailedCondition machine.now.state conditions.now act.now)) × (¬ (refusal.HasNoInvocationLeft machine.now.state act.now)))
         (λ o. IsRefusedByState machine.now.state conditions.now act.now o) }
 {
     match act {
-        Act::Writes(spot) => {
+        ThingAct::Writes(spot) => {
             if conditions.fails_to_write(machine.version_of(spot.slot())) {
                 Some(Outcome::PreconditionFailed)
             } else {
                 None
             }
         }
-        Act::Invokes(_) => {
+        ThingAct::Invokes(_) => {
             if MOST_INVOCATIONS <= running_count(machine.invocations()) {
                 Some(Outcome::InvocationsFull)
             } else {

@@ -6,13 +6,13 @@ ghost use Rattle.thing_site.specs.Site.{emitters_of, emitters_of_thing, is_emitt
 ghost use Rattle.thing_core.specs.State.{silent};
 
 use crate::NoMemory;
-use crate::state::Latest;
+use crate::state::LastValue;
 use std::alloc::Global;
 use thing_site::{HeldThing, Spot, is_emitter};
 
 /// The affordances that may emit, with no value yet: each observable property and each event, in the order of Things
 /// and affordances.
-pub fn silent_all(alloc: Global, things: &[HeldThing]) -> Result<Vec<Latest>, NoMemory>
+pub fn silent_all(alloc: Global, things: &[HeldThing]) -> Result<Vec<LastValue>, NoMemory>
     ensures { IfOk result (λ last. last.items ≡ map silent (emitters_of things.now)) }
 {
     let mut last = Vec::new(alloc);
@@ -23,7 +23,7 @@ pub fn silent_all(alloc: Global, things: &[HeldThing]) -> Result<Vec<Latest>, No
 }
 
 /// Puts those at the end that may emit among the affordances of a Thing.
-fn push_silent(alloc: Global, last: &mut Vec<Latest>, thing: &HeldThing) -> Result<(), NoMemory>
+fn push_silent(alloc: Global, last: &mut Vec<LastValue>, thing: &HeldThing) -> Result<(), NoMemory>
     ensures { OnOk result (last.new.items ≡ last.old.items ++ map silent (emitters_of_thing thing.now)) }
 {
     for index in 0..thing.len() {
@@ -38,11 +38,15 @@ fn push_silent(alloc: Global, last: &mut Vec<Latest>, thing: &HeldThing) -> Resu
 }
 
 /// Puts an affordance at the end, where it may emit.
-fn push_if_emitter(alloc: Global, last: &mut Vec<Latest>, spot: &Spot<'_>) -> Result<(), NoMemory>
+fn push_if_emitter(
+    alloc: Global,
+    last: &mut Vec<LastValue>,
+    spot: &Spot<'_>,
+) -> Result<(), NoMemory>
     ensures { OnOk result (last.new.items ≡ last.old.items ++ map silent (filter is_emitter_of (spot.now ∷ []))) }
 {
     if is_emitter(spot) {
-        last.push(Latest::silent(alloc, spot.slot())?)?;
+        last.push(LastValue::silent(alloc, spot.slot())?)?;
     }
     Ok(())
 }

@@ -12,7 +12,7 @@ ghost use Rattle.thing_core.specs.Performing.{MakesAct, MakesPolls};
 ghost use Rattle.thing_core.specs.Rounds.{PollsNext};
 ghost use Rattle.thing_core.specs.Thing.{most_turns};
 ghost use Rattle.thing_site.specs.Refusals.{longest_value};
-ghost use Rattle.thing_ops.specs.Requests.{plain_request};
+ghost use Rattle.thing_ops.specs.Requests.{request_seen};
 
 use crate::acting::{act, last_in};
 use crate::admitting::admitted;
@@ -89,7 +89,7 @@ impl Exposed {
     pub fn perform<R: Handlers>(&mut self, rack: &mut R, request: &Request<'_>) -> Outcome
         requires fits { Fits self.old.site (R.slots rack.old) }
         requires pending { self.old.pending ≡ [] }
-        ensures { MakesAct self.old self.new (plain_request request.now) result (R.slots rack.old) (R.slots rack.new) }
+        ensures { MakesAct self.old self.new (request_seen request.now) result (R.slots rack.old) (R.slots rack.new) }
     {
         match admitted(self.alloc, &self.things, &self.machine, request) {
             Ok(task) => act(self.alloc, task, request, &mut self.machine, rack),

@@ -9,7 +9,7 @@ ghost use Rattle.thing_core.specs.Performing.{IsTold, MakesDone, OrMemory, Outpu
 use crate::NoMemory;
 use crate::calling::{call, failure, taken_text};
 use crate::machine::Machine;
-use crate::room::Room;
+use crate::room::TextRoom;
 use crate::standing::invocation_in;
 use crate::state::{Invocation, MOST_TURNS};
 use crate::status::{put_completed, put_running};
@@ -30,19 +30,19 @@ pub struct Prepared {
     /// Its status while it runs.
     pub status: Bytes,
     /// Room for its output.
-    pub output: Room,
+    pub output: TextRoom,
 }
 
 /// Takes what an invocation of this id may need, under the path of its action.
 pub fn prepare(alloc: Global, path: &Segments, id: u64) -> Result<Prepared, NoMemory>
     ensures { IfOk result (λ p. (p.place ≡ place_of_invocation path.now id) × (p.status ≡ status_text id running) × (p.output ≡ [])) }
 {
-    let mut status = Room::new(alloc)?;
+    let mut status = TextRoom::new(alloc)?;
     put_running(&mut status, id);
     Ok(Prepared {
         place: place_under(alloc, path, id)?,
         status: status.into_bytes(),
-        output: Room::new(alloc)?,
+        output: TextRoom::new(alloc)?,
     })
 }
 
@@ -83,7 +83,7 @@ pub fn invoke<R: Handlers>(
     }
     let id = machine.next_invocation() as u32;
     match call(machine, rack, spot.slot(), &CallKind::Invoke(id, input)) {
-        Ok(answer) => settle(spot, prepared, answer, machine),
+        Ok(answer) => record_answer(spot, prepared, answer, machine),
         Err(outcome) => outcome,
     }
 }
@@ -102,7 +102,12 @@ fn handed_in(inputs: Vec<Input<'_>>) -> Option<Tree>
 }
 
 /// Settles an invocation by its answer.
-fn settle(spot: Spot<'_>, prepared: Prepared, answer: Answer, machine: &mut Machine) -> Outcome
+fn record_answer(
+    spot: Spot<'_>,
+    prepared: Prepared,
+    answer: Answer,
+    machine: &mut Machine,
+) -> Outcome
     requires id { machine.old.state.next_invocation ≤ machine.old.state.turns }
     requires running { running_count machine.old.state.invocations < most_invocations }
     requires status { prepared.status ≡ status_text machine.old.state.next_invocation running }
@@ -136,7 +141,7 @@ fn settle(spot: Spot<'_>, prepared: Prepared, answer: Answer, machine: &mut Mach
 }
 
 /// The outcome of an invocation that is finished at once.
-fn finished(mut room: Room, schema: &Option<Schema>, output: Option<Tree>) -> Outcome
+fn finished(mut room: TextRoom, schema: &Option<Schema>, output: Option<Tree>) -> Outcome
     requires { room ≡ [] }
     ensures { OutputComesTo schema.now output result }
 {
@@ -167,7 +172,7 @@ pub fn query<R: Handlers>(
     requires stands { IsSome (invocation_named spot.slot id machine.old.state.invocations) }
     ensures { MakesDone (OrMemory (OnInvocation spot.entry id (Queries spot.entry id))) result machine.old machine.new (R.slots rack.old) (R.slots rack.new) }
 {
-    let room = match Room::new(alloc) {
+    let room = match TextRoom::new(alloc) {
         Ok(room) => room,
         Err(_) => return Outcome::Memory,
     };
@@ -182,7 +187,7 @@ pub fn query<R: Handlers>(
 }
 
 /// The text in a room, as the outcome of a request.
-fn content_in(room: Room) -> Outcome
+fn content_in(room: TextRoom) -> Outcome
     ensures { result ≡ Outcome.Content room None }
 {
     Outcome::Content {
@@ -192,7 +197,12 @@ fn content_in(room: Room) -> Outcome
 }
 
 /// The status of an invocation that runs no more; or else the room.
-fn told(invocations: &[Invocation], slot: Slot, id: u32, mut room: Room) -> Result<Outcome, Room>
+fn told(
+    invocations: &[Invocation],
+    slot: Slot,
+    id: u32,
+    mut room: TextRoom,
+) -> Result<Outcome, TextRoom>
     requires room { room ≡ [] }
     requires rise { IdsRise invocations.now }
     ensures { IsTold (invocation_named slot id invocations.now) id result }
@@ -213,7 +223,7 @@ fn told(invocations: &[Invocation], slot: Slot, id: u32, mut room: Room) -> Resu
 fn queried(
     spot: Spot<'_>,
     id: u32,
-    mut room: Room,
+    mut room: TextRoom,
     answer: Answer,
     machine: &mut Machine,
 ) -> Outcome

@@ -2,7 +2,7 @@
 
 ghost use Rattle.std.specs.Prelude.{◌≡◌, [], List};
 ghost use Rattle.thing_ops.specs.declared.outcome.Outcome.{Outcome};
-ghost use Rattle.thing_ops.specs.Requests.{PlainRequest};
+ghost use Rattle.thing_ops.specs.Requests.{RequestSeen};
 ghost use Rattle.thing_handler.specs.Handler.{Seen};
 ghost use Rattle.thing_handler.specs.Turns.{HandlerCall};
 ghost use Rattle.thing_site.specs.Site.{Site};
@@ -20,14 +20,14 @@ ghost use Rattle.thing_core.specs.Ticks.{IsSameInTurn};
 
 /// A value that its schema refuses reaches no handler, and changes nothing.
 pub fn refused_values_reach_no_handler()
-    ensures { (site : Site) → (q : PlainRequest) → (done : Done) → (s t : State) → (seen : List HandlerCall)
+    ensures { (site : Site) → (q : RequestSeen) → (done : Done) → (s t : State) → (seen : List HandlerCall)
         → Acts site q done s seen t → Stands refused_by_schema (record { site = site; state = s; request = q })
         → (seen ≡ []) × (t ≡ s) }
 {}
 
 /// A rack that the site fits before a request is one that it fits afterwards.
 pub fn a_rack_fits_on()
-    ensures { (old new : Kept) → (q : PlainRequest) → (o : Outcome) → (before after : List Seen)
+    ensures { (old new : Kept) → (q : RequestSeen) → (o : Outcome) → (before after : List Seen)
         → MakesAct old new q o before after → Fits old.site before → Fits new.site after }
 {}
 
@@ -40,7 +40,7 @@ pub fn a_rack_fits_on_after_polls()
 /// A request that nothing is against, and whose devices answer in kind, has the success of its act as its outcome, but
 /// where it is out of memory or the run has no number left for a turn.
 pub fn requests_are_complete()
-    ensures { (site : Site) → (q : PlainRequest) → IsComplete site q }
+    ensures { (site : Site) → (q : RequestSeen) → IsComplete site q }
 {}
 
 /// To poll all events and to hand all emissions out afterwards is to do so event by event.
@@ -51,7 +51,7 @@ pub fn polls_are_the_same_in_turn()
 /// The outcome of a request, what it emits, its calls and the state afterwards are determined by the state, the request
 /// and the answers, where nothing is out of memory.
 pub fn requests_are_determined()
-    ensures { (site : Site) → (q : PlainRequest) → IsDetermined site q }
+    ensures { (site : Site) → (q : RequestSeen) → IsDetermined site q }
 {}
 
 /// Of each property texts are seen one after another, whatever is done: its version never falls, rises by one for each

@@ -10,8 +10,8 @@ ghost use Rattle.thing_core.specs.Course.{FitsValue};
 ghost use Rattle.thing_core.specs.Ids.{IdsRise};
 
 use crate::NoMemory;
-use crate::room::Room;
-use crate::state::{Invocation, Latest, MOST_INVOCATIONS, place_by_id};
+use crate::room::TextRoom;
+use crate::state::{Invocation, LastValue, MOST_INVOCATIONS, place_by_id};
 use crate::version::{Version, place_of_version};
 use servient_base::Target;
 use std::alloc::Global;
@@ -28,11 +28,11 @@ pub struct Machine {
     /// The oldest first.
     invocations: Vec<Invocation>,
     /// The rooms of further invocations.
-    spare: Vec<Room>,
+    spare: Vec<TextRoom>,
     /// The id of the next invocation, counted over all actions.
     pub(crate) next_invocation: u64,
     /// One for each affordance that may emit.
-    last: Vec<Latest>,
+    last: Vec<LastValue>,
     /// The number of turns of the run.
     pub(crate) turns: u64,
     pub(crate) pending: VecDeque<Target>,
@@ -75,7 +75,7 @@ impl Machine {
     pub fn new(
         alloc: Global,
         versions: Vec<Version>,
-        last: Vec<Latest>,
+        last: Vec<LastValue>,
     ) -> Result<Machine, NoMemory>
         requires { (slot : ℕ) → spec.version_of slot versions.items ≡ 0 }
         ensures state { IfOk result (λ m. m.state
@@ -126,7 +126,7 @@ impl Machine {
     }
 
     /// The last value of each affordance that may emit.
-    pub fn last(&self) -> &[Latest]
+    pub fn last(&self) -> &[LastValue]
         ensures { result.now ≡ self.now.state.last }
     {
         self.last.as_slice()
@@ -243,19 +243,19 @@ impl Machine {
 }
 
 /// As many empty rooms as there may be invocations.
-fn empty_rooms(alloc: Global) -> Result<Vec<Room>, NoMemory>
+fn empty_rooms(alloc: Global) -> Result<Vec<TextRoom>, NoMemory>
     ensures count { IfOk result (λ rooms. vec_len rooms ≡ spec.most_invocations) }
     ensures places { IfOk result (λ rooms. spec.most_invocations ≤ vec_capacity rooms) }
 {
     let mut rooms = Vec::with_capacity(alloc, MOST_INVOCATIONS)?;
     for _ in 0..MOST_INVOCATIONS {
-        rooms.push(Room::new(alloc)?)?;
+        rooms.push(TextRoom::new(alloc)?)?;
     }
     Ok(rooms)
 }
 
 /// Each of these whose affordance is in this slot emits this text.
-fn renew_all(last: &mut [Latest], target: Target, text: &[u8])
+fn renew_all(last: &mut [LastValue], target: Target, text: &[u8])
     requires { length text.now ≤ longest_value }
     ensures { last.new ≡ map (spec.renewed (record { target = target; text = text.now })) last.old }
 {
@@ -265,7 +265,7 @@ fn renew_all(last: &mut [Latest], target: Target, text: &[u8])
 }
 
 /// The first that is completed goes, and gives its room back.
-fn drop_oldest_completed(invocations: &mut Vec<Invocation>, spare: &mut Vec<Room>)
+fn drop_oldest_completed(invocations: &mut Vec<Invocation>, spare: &mut Vec<TextRoom>)
     requires room { vec_len spare.old + vec_len invocations.old ≤ vec_capacity spare.old }
     requires some { spec.running_count invocations.old.items < vec_len invocations.old }
     ensures items { invocations.new.items ≡ spec.without_oldest_completed invocations.old.items }
@@ -288,7 +288,7 @@ fn place_of_completed(invocations: &[Invocation]) -> Option<usize>
 }
 
 /// An invocation that runs, in one of these rooms.
-fn running_in(spare: &mut Vec<Room>, id: u32, slot: Slot) -> Invocation
+fn running_in(spare: &mut Vec<TextRoom>, id: u32, slot: Slot) -> Invocation
     requires { 0 < vec_len spare.old }
     ensures invocation { result ≡ record { id = id; slot = slot; status = spec.running } }
     ensures len { vec_len spare.new + 1 ≡ vec_len spare.old }
@@ -300,7 +300,7 @@ fn running_in(spare: &mut Vec<Room>, id: u32, slot: Slot) -> Invocation
 }
 
 /// The one at this place goes, and gives its room back.
-fn take_back(invocations: &mut Vec<Invocation>, spare: &mut Vec<Room>, index: usize)
+fn take_back(invocations: &mut Vec<Invocation>, spare: &mut Vec<TextRoom>, index: usize)
     requires index { index < vec_len invocations.old }
     requires room { vec_len spare.old < vec_capacity spare.old }
     ensures items { invocations.new.items ≡ remove invocations.old.items index }

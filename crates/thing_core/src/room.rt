@@ -13,11 +13,11 @@ pub const ROOM_SIZE: usize = 1152;
 
 /// Room for a text of at most `ROOM_SIZE` bytes. Contracts see the text in it. Filling it takes no memory.
 #[derive(Debug, Drop)]
-pub struct Room {
+pub struct TextRoom {
     bytes: Vec<u8>,
 }
 
-impl Model for Room {
+impl Model for TextRoom {
     ghost use Rattle.std.specs.Prelude.{List, ℕ, ◌≤◌, vec_capacity};
     ghost use Rattle.thing_core.specs.Rooms.{room_size};
 
@@ -28,12 +28,12 @@ impl Model for Room {
     ghost invariant = { λ r. room_size ≤ vec_capacity r.bytes };
 }
 
-impl Room {
+impl TextRoom {
     /// An empty room.
-    pub fn new(alloc: Global) -> Result<Room, NoMemory>
+    pub fn new(alloc: Global) -> Result<TextRoom, NoMemory>
         ensures { IfOk result (λ r. r ≡ []) }
     {
-        Ok(Room {
+        Ok(TextRoom {
             bytes: Vec::with_capacity(alloc, ROOM_SIZE)?,
         })
     }

@@ -8,30 +8,30 @@ ghost use Rattle.thing_core.specs.Ids.{IdsRise};
 use crate::state::{Invocation, place_by_id};
 use thing_handler::Slot;
 use thing_ops::Segments;
-use thing_site::{IndexedThings, Place, place_at};
+use thing_site::{IndexedThings, Resource, place_at};
 
 /// The place of a path among Things, where it leads anywhere and there are these invocations.
 pub fn place_of<'a>(
     things: &'a IndexedThings,
     invocations: &[Invocation],
     path: &Segments,
-) -> Option<Place<'a>>
+) -> Option<Resource<'a>>
     requires { IdsRise invocations.now }
     ensures { result ≡ spec.place_of path.now things.now invocations.now }
 {
     let place = place_at(things, path)?;
     match place {
-        Place::Invocation(spot, id) => match invocation_in(invocations, spot.slot(), id) {
-            Some(_) => Some(Place::Invocation(spot, id)),
+        Resource::Invocation(spot, id) => match invocation_in(invocations, spot.slot(), id) {
+            Some(_) => Some(Resource::Invocation(spot, id)),
             None => None,
         },
-        Place::Description(_)
-        | Place::AllProperties(_)
-        | Place::Property(_)
-        | Place::Observed(_)
-        | Place::Action(_)
-        | Place::Event(_)
-        | Place::Subscribed(_) => Some(place),
+        Resource::Description(_)
+        | Resource::AllProperties(_)
+        | Resource::Property(_)
+        | Resource::Observed(_)
+        | Resource::Action(_)
+        | Resource::Event(_)
+        | Resource::Subscribed(_) => Some(place),
     }
 }
 

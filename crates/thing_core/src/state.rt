@@ -6,7 +6,7 @@ ghost use Rattle.thing_core.specs.Course as course;
 ghost use Rattle.thing_core.specs.Ids.{IdsRise};
 
 use crate::NoMemory;
-use crate::room::Room;
+use crate::room::TextRoom;
 use servient_base::Target;
 use std::alloc::Global;
 use std::cmp::Ordering;
@@ -35,7 +35,7 @@ pub struct Invocation {
     id: u32,
     slot: Slot,
     progress: Progress,
-    output: Room,
+    output: TextRoom,
 }
 
 impl Model for Invocation {
@@ -59,7 +59,7 @@ impl Invocation {
     ghost use Rattle.thing_core.specs.State.{completed, is_running as is_running_one, running};
 
     /// One that runs, in a room that has no longer text than a value.
-    pub fn running(id: u32, slot: Slot, output: Room) -> Invocation
+    pub fn running(id: u32, slot: Slot, output: TextRoom) -> Invocation
         requires { length output ≤ longest_value }
         ensures { result ≡ record { id = id; slot = slot; status = running } }
     {
@@ -119,7 +119,7 @@ impl Invocation {
     }
 
     /// The room of its output.
-    pub fn into_room(self) -> Room {
+    pub fn into_room(self) -> TextRoom {
         self.output
     }
 }
@@ -140,16 +140,16 @@ pub fn place_by_id(invocations: &[Invocation], id: u32) -> Option<usize>
 
 /// The last value of an affordance that may emit.
 #[derive(Debug, Drop)]
-pub struct Latest {
+pub struct LastValue {
     target: Target,
     has_emitted: bool,
-    text: Room,
+    text: TextRoom,
 }
 
-impl Model for Latest {
+impl Model for LastValue {
     ghost use Rattle.std.specs.Prelude.{◌≤◌, length, Some, None, if◌then◌else◌};
     ghost use Rattle.thing_site.specs.Refusals.{longest_value};
-    ghost use Rattle.thing_core.specs.State.{Latest as LatestSeen};
+    ghost use Rattle.thing_core.specs.State.{LastValue as LatestSeen};
     ghost use Rattle.thing_core.specs.Course.{latest_code};
 
     ghost Value = { LatestSeen };
@@ -161,19 +161,19 @@ impl Model for Latest {
     ghost invariant = { λ l. length l.text ≤ longest_value };
 }
 
-impl Latest {
+impl LastValue {
     ghost use Rattle.std.specs.Prelude.{None, IfSome};
     ghost use Rattle.thing_site.specs.Refusals.{longest_value};
     ghost use Rattle.thing_core.specs.State.{renewed};
 
     /// That of the affordance in this slot, which hasn't emitted yet.
-    pub fn silent(alloc: Global, target: Target) -> Result<Latest, NoMemory>
+    pub fn silent(alloc: Global, target: Target) -> Result<LastValue, NoMemory>
         ensures { IfOk result (λ l. l ≡ record { target = target; text = None }) }
     {
-        Ok(Latest {
+        Ok(LastValue {
             target,
             has_emitted: false,
-            text: Room::new(alloc)?,
+            text: TextRoom::new(alloc)?,
         })
     }
 

@@ -4,11 +4,11 @@ ghost use Rattle.std.specs.Prelude.{◌≡◌, ◌≤◌, ◌++◌, [], length, 
 ghost use Rattle.thing_core.specs.State.{completed, output_text, running, status_text};
 ghost use Rattle.thing_core.specs.Course.{FitsValue};
 
-use crate::room::Room;
+use crate::room::TextRoom;
 use itoa::Buffer;
 
 /// Puts the status of one that runs into an empty room.
-pub fn put_running(room: &mut Room, id: u64)
+pub fn put_running(room: &mut TextRoom, id: u64)
     requires { room.old ≡ [] }
     ensures { room.new ≡ status_text id running }
 {
@@ -19,7 +19,7 @@ pub fn put_running(room: &mut Room, id: u64)
 }
 
 /// Puts the status of one that is completed, with this output where it has one, into an empty room.
-pub fn put_completed(room: &mut Room, id: u64, output: Option<&[u8]>)
+pub fn put_completed(room: &mut TextRoom, id: u64, output: Option<&[u8]>)
     requires empty { room.old ≡ [] }
     requires output { FitsValue (option_map (λ t. t.now) output) }
     ensures { room.new ≡ status_text id (completed (option_map (λ t. t.now) output.entry)) }
@@ -32,7 +32,7 @@ pub fn put_completed(room: &mut Room, id: u64, output: Option<&[u8]>)
 }
 
 /// Puts the member of an output, where there is one, after what is in a room.
-fn put_output(room: &mut Room, output: Option<&[u8]>)
+fn put_output(room: &mut TextRoom, output: Option<&[u8]>)
     requires output { FitsValue (option_map (λ t. t.now) output) }
     requires room { length room.old ≤ 64 }
     ensures { room.new ≡ room.old ++ output_text (option_map (λ t. t.now) output.entry) }

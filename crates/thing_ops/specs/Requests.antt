@@ -7,7 +7,7 @@ use Rattle.thing_ops.specs.declared.request.Format.{Format}
 use Rattle.thing_ops.specs.declared.request.Request.{Request}
 
 -- a request: its path is a list of segments, and segments, query and body are lists of bytes
-pub record PlainRequest : Type 0 where
+pub record RequestSeen : Type 0 where
   pub verb : Verb
   pub path : List (List ℕ)
   pub query : List ℕ
@@ -17,8 +17,8 @@ pub record PlainRequest : Type 0 where
   pub conditions : Conditions
 
 -- a request as plain lists
-abbrev pub plain_request : Request → PlainRequest
-plain_request r = record {
+abbrev pub request_seen : Request → RequestSeen
+request_seen r = record {
   verb = r.verb;
   path = r.path;
   query = r.query.now;

@@ -27,7 +27,7 @@ pub struct Accept {
 }
 
 /// A request. It owns its path and its conditions, and borrows query and body from the message that it came in.
-/// `plain_request` of `specs/Requests.antt` is the same as a record of lists.
+/// `request_seen` of `specs/Requests.antt` is the same as a record of lists.
 #[derive(Debug, Drop)]
 pub struct Request<'a> {
     /// Its method.

@@ -1,8 +1,8 @@
 -- A verb is taken where the table of verbs has it.
 use Rattle.thing_site.specs.Places.{flags_of}
 use Rattle.thing_site.specs.Site.{Placed}
-use Rattle.thing_site.specs.declared.place.Place.{Place}
-use Rattle.thing_site.specs.declared.place.Place.TheVariants as place
+use Rattle.thing_site.specs.declared.place.Resource.{Resource}
+use Rattle.thing_site.specs.declared.place.Resource.TheVariants as place
 use Rattle.std.proofs.Common.{◌≡◌, List, [], ◌∷◌, Bool, true, false, refl, sym, ap, ◌∙◌}
 use Rattle.std.specs.List.{filter}
 use Rattle.thing_ops.specs.declared.allow.Allow.{Allow}
@@ -59,6 +59,6 @@ pub unlisted_if_not_taken : (allow : Allow) (v : Verb) → takes allow v ≡ fal
 unlisted_if_not_taken allow v e = fails (takes allow) v in_order e
 
 -- the flags of a place that is no property
-pub flags_elsewhere : (p : Place) → ((spot : Placed) → ¬ (p ≡ place.Property spot)) → record { read_only = false; write_only = false } ≡ flags_of p
+pub flags_elsewhere : (p : Resource) → ((spot : Placed) → ¬ (p ≡ place.Property spot)) → record { read_only = false; write_only = false } ≡ flags_of p
 flags_elsewhere (place.Property spot) other = absurd (other spot refl)
 flags_elsewhere p other = refl

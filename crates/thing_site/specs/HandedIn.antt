@@ -5,10 +5,10 @@ use Rattle.wot_json.specs.Tree.{Json}
 use Rattle.wot_json.specs.JsonCodes.{json_code}
 use Rattle.thing_ops.specs.declared.outcome.Outcome.{Outcome}
 use Rattle.thing_ops.specs.declared.outcome.Outcome.TheVariants as outcome
-use Rattle.thing_ops.specs.Requests.{PlainRequest}
+use Rattle.thing_ops.specs.Requests.{RequestSeen}
 use Rattle.thing_site.specs.Site.{Placed}
 use Rattle.thing_site.specs.SiteCodes.{placed_code}
-use Rattle.thing_site.specs.declared.place.Act.{Act}
+use Rattle.thing_site.specs.declared.place.ThingAct.{ThingAct}
 use Rattle.thing_site.specs.declared.formats.AnswerFormat.{AnswerFormat}
 use Rattle.thing_site.specs.declared.formats.BodyFormat.{BodyFormat}
 use Rattle.thing_site.specs.Refusals.{Input, inputs_of, is_acceptable, HasOtherFormat, SomeInput, IsLong, IsRefusedBySchema, refusals_by_request, StandsByRequest, IsAnswer, IsFirst, IsNone}
@@ -16,11 +16,11 @@ use Rattle.thing_site.specs.Refusals.{Input, inputs_of, is_acceptable, HasOtherF
 -- ---- formats
 
 -- a request's formats are those that are asked for
-abbrev pub AreFormatsTaken : AnswerFormat → BodyFormat → PlainRequest → Type 0
+abbrev pub AreFormatsTaken : AnswerFormat → BodyFormat → RequestSeen → Type 0
 AreFormatsTaken answer body q = (is_acceptable answer q.accept ≡ true) × (¬ (HasOtherFormat body q))
 
 -- they aren't: the answer's, or else the body's
-abbrev pub AreFormatsRefused : AnswerFormat → BodyFormat → PlainRequest → Outcome → Type 0
+abbrev pub AreFormatsRefused : AnswerFormat → BodyFormat → RequestSeen → Outcome → Type 0
 AreFormatsRefused answer body q o =
     ((is_acceptable answer q.accept ≡ false) × (o ≡ outcome.NotAcceptable))
     ⊎ ((is_acceptable answer q.accept ≡ true) × HasOtherFormat body q × (o ≡ outcome.Format))
@@ -42,11 +42,11 @@ AreInputsRefused inputs o =
     ⊎ ((¬ (SomeInput IsLong inputs)) × SomeInput IsRefusedBySchema inputs × (o ≡ outcome.BadValue))
 
 -- a request hands this in to an act, and nothing that needs no state is against it
-abbrev pub IsUnrefused : Act → PlainRequest → List Input → Type 0
+abbrev pub IsUnrefused : ThingAct → RequestSeen → List Input → Type 0
 IsUnrefused act q inputs = (inputs_of act q.body ≡ Some inputs) × IsNone (λ r. StandsByRequest r act q) refusals_by_request
 
 -- the first such refusal decides, or it is out of memory
-abbrev pub IsRefusedByRequest : Act → PlainRequest → Outcome → Type 0
+abbrev pub IsRefusedByRequest : ThingAct → RequestSeen → Outcome → Type 0
 IsRefusedByRequest act q o = (o ≡ outcome.Memory) ⊎ IsFirst (λ r. StandsByRequest r act q) IsAnswer refusals_by_request o
 
 -- the code of an input, as the kit asks in an `impl Model`

@@ -8,10 +8,10 @@ use Rattle.thing_ops.specs.declared.routing.RouteKind.{RouteKind}
 use Rattle.thing_ops.specs.declared.routing.RouteKind.TheVariants as route
 use Rattle.thing_ops.specs.declared.allow.Flags.{Flags}
 use Rattle.thing_ops.specs.Verbs.{verbs_of}
-use Rattle.thing_site.specs.declared.place.Place.{Place}
-use Rattle.thing_site.specs.declared.place.Place.TheVariants as place
-use Rattle.thing_site.specs.declared.place.Act.{Act}
-use Rattle.thing_site.specs.declared.place.Act.TheVariants as act
+use Rattle.thing_site.specs.declared.place.Resource.{Resource}
+use Rattle.thing_site.specs.declared.place.Resource.TheVariants as place
+use Rattle.thing_site.specs.declared.place.ThingAct.{ThingAct}
+use Rattle.thing_site.specs.declared.place.ThingAct.TheVariants as act
 use Rattle.thing_site.specs.Site.{Placed, ExposedThing, Site, thing_named, affordance_named}
 
 -- ---- places
@@ -25,11 +25,11 @@ affordance_in k path site =
     option_and_then (λ thing. option_and_then (λ name. affordance_named k name thing.affordances) (slice_get path 2)) (thing_in path site)
 
 -- where a property is observed there is something only where it is observable
-abbrev pub where_observable : Placed → Option Place
+abbrev pub where_observable : Placed → Option Resource
 where_observable p = if p.affordance.observable then Some (place.Observed p) else None
 
 -- the place of a path of this form; that of an invocation, whether there is one of this id or not
-abbrev pub place_at : RouteKind → List (List ℕ) → Site → Option Place
+abbrev pub place_at : RouteKind → List (List ℕ) → Site → Option Resource
 place_at route.Root path site = option_map place.Description (slice_get site 0)
 place_at route.Thing path site = option_map place.Description (thing_in path site)
 place_at route.All path site = option_map place.AllProperties (thing_in path site)
@@ -47,12 +47,12 @@ place_at route.Nowhere path site = None
 -- ---- acts
 
 -- the flags of the property that a place is; false for any other place
-abbrev pub flags_of : Place → Flags
+abbrev pub flags_of : Resource → Flags
 flags_of (place.Property p) = record { read_only = p.affordance.read_only; write_only = p.affordance.write_only }
 flags_of place = record { read_only = false; write_only = false }
 
 -- the act that a verb asks for at a place where it is taken (TD 1.1, section 8.3, and RFC 9110, section 9.3)
-abbrev pub act_of : Place → Verb → Act
+abbrev pub act_of : Resource → Verb → ThingAct
 act_of (place.Description thing) v = act.Describes thing
 act_of (place.AllProperties thing) verb.Put = act.WritesMany thing
 act_of (place.AllProperties thing) v = act.ReadsAll thing
@@ -81,13 +81,13 @@ is_listed v [] = false
 is_listed v (w ∷ ws) = if is_verb v w then true else is_listed v ws
 
 -- the act of a verb at a place to which a path of this form leads, where the table of verbs has it there
-abbrev pub act_at : RouteKind → Place → Verb → Option Act
+abbrev pub act_at : RouteKind → Resource → Verb → Option ThingAct
 act_at form place v = if is_listed v (verbs_of form (flags_of place)) then Some (act_of place v) else None
 
 -- ---- targets
 
 -- the target of the own path of an observable property or an event: the slot of its affordance
-abbrev pub target_at : Option Place → Option ℕ
+abbrev pub target_at : Option Resource → Option ℕ
 target_at (Some (place.Property p)) = if p.affordance.observable then Some p.slot else None
 target_at (Some (place.Event p)) = Some p.slot
 target_at place = None

@@ -10,14 +10,14 @@ use Rattle.thing_ops.specs.declared.request.Format.{Format}
 use Rattle.thing_ops.specs.declared.request.Format.TheVariants as format
 use Rattle.thing_ops.specs.declared.outcome.Outcome.{Outcome}
 use Rattle.thing_ops.specs.declared.outcome.Outcome.TheVariants as outcome
-use Rattle.thing_ops.specs.Requests.{PlainRequest}
+use Rattle.thing_ops.specs.Requests.{RequestSeen}
 use Rattle.thing_site.specs.declared.formats.AnswerFormat.{AnswerFormat}
 use Rattle.thing_site.specs.declared.formats.AnswerFormat.TheVariants as sent
 use Rattle.thing_site.specs.declared.formats.BodyFormat.{BodyFormat}
 use Rattle.thing_site.specs.declared.formats.BodyFormat.TheVariants as taken
 use Rattle.thing_site.specs.Site.{Placed, ExposedThing, affordance_named}
-use Rattle.thing_site.specs.declared.place.Act.{Act}
-use Rattle.thing_site.specs.declared.place.Act.TheVariants as act
+use Rattle.thing_site.specs.declared.place.ThingAct.{ThingAct}
+use Rattle.thing_site.specs.declared.place.ThingAct.TheVariants as act
 
 -- ---- what is handed in
 
@@ -62,7 +62,7 @@ invoke_inputs p (Some schema) body = option_map (only_input p) (tree_of body)
 
 -- The inputs that a body hands in to an act; None: the act takes a body and has none that can be read, or the other way
 -- round.
-abbrev pub inputs_of : Act → List ℕ → Option (List Input)
+abbrev pub inputs_of : ThingAct → List ℕ → Option (List Input)
 inputs_of (act.Describes thing) body = no_inputs body
 inputs_of (act.ReadsAll thing) body = no_inputs body
 inputs_of (act.WritesMany thing) body = option_and_then (object_inputs thing) (tree_of body)
@@ -77,7 +77,7 @@ inputs_of (act.Waits p) body = no_inputs body
 -- ---- what an act asks of a request
 
 -- the formats of its answer: a description as either format, a value as JSON; other acts send no such thing
-abbrev pub answer_format : Act → AnswerFormat
+abbrev pub answer_format : ThingAct → AnswerFormat
 answer_format (act.Describes thing) = sent.Description
 answer_format (act.ReadsAll thing) = sent.Json
 answer_format (act.Reads p) = sent.Json
@@ -90,7 +90,7 @@ answer_format (act.Writes p) = sent.Any
 answer_format (act.Cancels p id) = sent.Any
 
 -- the formats of its body: for a description also those of descriptions
-abbrev pub body_format : Act → BodyFormat
+abbrev pub body_format : ThingAct → BodyFormat
 body_format (act.Describes thing) = taken.Description
 body_format act = taken.Json
 
@@ -111,7 +111,7 @@ is_taken_format b f = false
 abbrev pub IsEmptyBody : List ℕ → Type 0
 IsEmptyBody bytes = bytes ≡ []
 
-abbrev pub HasOtherFormat : BodyFormat → PlainRequest → Type 0
+abbrev pub HasOtherFormat : BodyFormat → RequestSeen → Type 0
 HasOtherFormat b q = (¬ (IsEmptyBody q.body)) × (is_taken_format b q.format ≡ false)
 
 -- The demands of an act on a request, be it of a Thing or of what else there is (the directory): the formats of its
@@ -122,7 +122,7 @@ pub record Demands : Type 0 where
   pub inputs : List ℕ → Option (List Input)
 
 -- the table of the acts of Things
-abbrev pub demands_of : Act → Demands
+abbrev pub demands_of : ThingAct → Demands
 demands_of act = record { answer = answer_format act; body = body_format act; inputs = inputs_of act }
 
 -- some input is so
@@ -158,7 +158,7 @@ Holding P None = ⊥
 Holding P (Some a) = P a
 
 -- each of them holds of a request for this, in every state
-abbrev pub StandsBy : Refusal → Demands → PlainRequest → Type 0
+abbrev pub StandsBy : Refusal → Demands → RequestSeen → Type 0
 -- the sender takes no format that the answer has
 StandsBy answer_not_acceptable d q = is_acceptable d.answer q.accept ≡ false
 -- it has a body in a format that isn't taken there
@@ -173,7 +173,7 @@ StandsBy refused_by_schema d q = Holding (SomeInput IsRefusedBySchema) (d.inputs
 StandsBy r d q = ⊥
 
 -- the same of an act of Things
-abbrev pub StandsByRequest : Refusal → Act → PlainRequest → Type 0
+abbrev pub StandsByRequest : Refusal → ThingAct → RequestSeen → Type 0
 StandsByRequest r act q = StandsBy r (demands_of act) q
 
 -- the answer to each of those against an act

@@ -1,7 +1,7 @@
 //! The formats in which answers are sent and bodies are taken, and the refusals of a request for its formats.
 
 ghost use Rattle.std.specs.Prelude.{◌≡◌, OnOk, IfErr};
-ghost use Rattle.thing_ops.specs.Requests.{plain_request};
+ghost use Rattle.thing_ops.specs.Requests.{request_seen};
 ghost use Rattle.thing_site.specs.Refusals as refusal;
 ghost use Rattle.thing_site.specs.HandedIn.{AreFormatsTaken, AreFormatsRefused};
 
@@ -37,8 +37,8 @@ pub fn judge_formats(
     body: BodyFormat,
     request: &Request<'_>,
 ) -> Result<(), Outcome>
-    ensures ok { OnOk result (AreFormatsTaken answer body (plain_request request.now)) }
-    ensures fault { IfErr result (λ o. AreFormatsRefused answer body (plain_request request.now) o) }
+    ensures ok { OnOk result (AreFormatsTaken answer body (request_seen request.now)) }
+    ensures fault { IfErr result (λ o. AreFormatsRefused answer body (request_seen request.now) o) }
 {
     let is_acceptable = match answer {
         AnswerFormat::Any => true,

@@ -7,7 +7,7 @@
 //!
 //! ```
 //! use thing_handler::{Kind, Rack};
-//! use thing_site::{IndexedThings, Place, Slots, place_at};
+//! use thing_site::{IndexedThings, Resource, Slots, place_at};
 //!
 //! // The affordance `on` of the Thing `lamp` is served by the handler in slot 1 of the rack.
 //! let mut slots = Slots::new(alloc);
@@ -40,7 +40,7 @@ pub use formats::{AnswerFormat, BodyFormat, judge_formats};
 pub use held::{HeldThing, LentThing};
 pub use indexed::IndexedThings;
 pub use input::Input;
-pub use place::{Act, Place, act_at, place_at, target_at};
+pub use place::{Resource, ThingAct, act_at, place_at, target_at};
 pub use refusing::{LONGEST_VALUE, is_accepted, judge, value_in};
 pub use servient_base::NoMemory;
 pub use site::{Spot, is_emitter, is_kind};

@@ -15,7 +15,7 @@ const NAME: usize = 2;
 
 /// The place of a path.
 #[derive(Drop)]
-pub enum Place<'a> {
+pub enum Resource<'a> {
     Description(LentThing<'a>),
     AllProperties(LentThing<'a>),
     Property(Spot<'a>),
@@ -32,7 +32,7 @@ pub enum Place<'a> {
 
 /// An act that a request asks for.
 #[derive(Drop)]
-pub enum Act<'a> {
+pub enum ThingAct<'a> {
     Describes(LentThing<'a>),
     ReadsAll(LentThing<'a>),
     WritesMany(LentThing<'a>),
@@ -46,22 +46,30 @@ pub enum Act<'a> {
 }
 
 /// The place of a path, where it leads anywhere. A path leads to an invocation also where there is none of this id.
-pub fn place_at<'a>(things: &'a IndexedThings, path: &Segments) -> Option<Place<'a>>
+pub fn place_at<'a>(things: &'a IndexedThings, path: &Segments) -> Option<Resource<'a>>
     ensures { result ≡ spec.place_at (route_of path.now) path.now things.now }
 {
     match route(path) {
-        RouteKind::Root => Some(Place::Description(LentThing::of(things.as_slice().first()?))),
-        RouteKind::Thing => Some(Place::Description(LentThing::of(things.named(path.get(0)?)?))),
-        RouteKind::All => Some(Place::AllProperties(LentThing::of(things.named(path.get(0)?)?))),
-        RouteKind::Property => Some(Place::Property(affordance_in(things, path, Kind::Property)?)),
+        RouteKind::Root => Some(Resource::Description(LentThing::of(things.as_slice().first()?))),
+        RouteKind::Thing => Some(Resource::Description(LentThing::of(things.named(path.get(0)?)?))),
+        RouteKind::All => Some(Resource::AllProperties(LentThing::of(things.named(path.get(0)?)?))),
+        RouteKind::Property => Some(Resource::Property(affordance_in(
+            things,
+            path,
+            Kind::Property,
+        )?)),
         RouteKind::Observe => observed(affordance_in(things, path, Kind::Property)?),
-        RouteKind::Subscribe => Some(Place::Subscribed(affordance_in(things, path, Kind::Event)?)),
-        RouteKind::Action => Some(Place::Action(affordance_in(things, path, Kind::Action)?)),
-        RouteKind::Invocation(id) => Some(Place::Invocation(
+        RouteKind::Subscribe => Some(Resource::Subscribed(affordance_in(
+            things,
+            path,
+            Kind::Event,
+        )?)),
+        RouteKind::Action => Some(Resource::Action(affordance_in(things, path, Kind::Action)?)),
+        RouteKind::Invocation(id) => Some(Resource::Invocation(
             affordance_in(things, path, Kind::Action)?,
             id,
         )),
-        RouteKind::Event => Some(Place::Event(affordance_in(things, path, Kind::Event)?)),
+        RouteKind::Event => Some(Resource::Event(affordance_in(things, path, Kind::Event)?)),
         RouteKind::Things | RouteKind::Entry | RouteKind::Nowhere => None,
     }
 }
@@ -75,24 +83,24 @@ fn affordance_in<'a>(things: &'a IndexedThings, path: &Segments, kind: Kind) -> 
 }
 
 /// The place at which a property is observed, if it is observable.
-fn observed<'a>(property: Spot<'a>) -> Option<Place<'a>>
+fn observed<'a>(property: Spot<'a>) -> Option<Resource<'a>>
     ensures { result ≡ spec.where_observable property.entry }
 {
     if property.affordance().observable {
-        Some(Place::Observed(property))
+        Some(Resource::Observed(property))
     } else {
         None
     }
 }
 
 /// The act of a verb at a place to which a path of this form leads; else the verbs that are taken there.
-pub fn act_at<'a>(route: RouteKind, place: Place<'a>, verb: Verb) -> Result<Act<'a>, Allow>
+pub fn act_at<'a>(route: RouteKind, place: Resource<'a>, verb: Verb) -> Result<ThingAct<'a>, Allow>
     ensures { MatchResult result
         (λ act. spec.act_at route place.entry verb ≡ Some act)
         (λ allow. (spec.act_at route place.entry verb ≡ None) × (verbs_in allow ≡ verbs_of route (spec.flags_of place.entry))) }
 {
     let flags = match &place {
-        Place::Property(spot) => Flags {
+        Resource::Property(spot) => Flags {
             read_only: spot.affordance().read_only,
             write_only: spot.affordance().write_only,
         },
@@ -111,36 +119,36 @@ pub fn act_at<'a>(route: RouteKind, place: Place<'a>, verb: Verb) -> Result<Act<
 
 /// The act of a verb at a place where it is taken. The table `verbs_of`, which `act_at` asks, alone says which verbs
 /// these are.
-fn act_of<'a>(place: Place<'a>, verb: Verb) -> Act<'a>
+fn act_of<'a>(place: Resource<'a>, verb: Verb) -> ThingAct<'a>
     ensures { result ≡ spec.act_of place.entry verb }
 {
     match (place, verb) {
-        (Place::Description(thing), _) => Act::Describes(thing),
-        (Place::AllProperties(thing), Verb::Put) => Act::WritesMany(thing),
-        (Place::AllProperties(thing), _) => Act::ReadsAll(thing),
-        (Place::Property(spot), Verb::Put) => Act::Writes(spot),
-        (Place::Property(spot), _) => Act::Reads(spot),
-        (Place::Observed(spot) | Place::Subscribed(spot), _) => Act::Waits(spot),
-        (Place::Action(spot), _) => Act::Invokes(spot),
-        (Place::Invocation(spot, id), Verb::Delete) => Act::Cancels(spot, id),
-        (Place::Invocation(spot, id), _) => Act::Queries(spot, id),
-        (Place::Event(spot), _) => Act::ReadsEvent(spot),
+        (Resource::Description(thing), _) => ThingAct::Describes(thing),
+        (Resource::AllProperties(thing), Verb::Put) => ThingAct::WritesMany(thing),
+        (Resource::AllProperties(thing), _) => ThingAct::ReadsAll(thing),
+        (Resource::Property(spot), Verb::Put) => ThingAct::Writes(spot),
+        (Resource::Property(spot), _) => ThingAct::Reads(spot),
+        (Resource::Observed(spot) | Resource::Subscribed(spot), _) => ThingAct::Waits(spot),
+        (Resource::Action(spot), _) => ThingAct::Invokes(spot),
+        (Resource::Invocation(spot, id), Verb::Delete) => ThingAct::Cancels(spot, id),
+        (Resource::Invocation(spot, id), _) => ThingAct::Queries(spot, id),
+        (Resource::Event(spot), _) => ThingAct::ReadsEvent(spot),
     }
 }
 
 /// The target of the own path of an observable property or an event: the slot of its affordance.
-pub fn target_at(place: Option<Place<'_>>) -> Option<Target>
+pub fn target_at(place: Option<Resource<'_>>) -> Option<Target>
     ensures { result ≡ spec.target_at place.entry }
 {
     match place {
-        Some(Place::Property(spot)) => {
+        Some(Resource::Property(spot)) => {
             if spot.affordance().observable {
                 Some(spot.slot())
             } else {
                 None
             }
         }
-        Some(Place::Event(spot)) => Some(spot.slot()),
+        Some(Resource::Event(spot)) => Some(spot.slot()),
         _ => None,
     }
 }

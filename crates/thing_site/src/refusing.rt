@@ -4,12 +4,12 @@ ghost use Rattle.std.specs.Prelude.{◌≡◌, ◌↔◌, option_map, option_and
 ghost use Rattle.wot_json.specs.Reading.{tree_of};
 ghost use Rattle.wot_json.specs.Tree.{members_of};
 ghost use Rattle.wot_json.specs.Meaning.{json_of};
-ghost use Rattle.thing_ops.specs.Requests.{plain_request};
+ghost use Rattle.thing_ops.specs.Requests.{request_seen};
 ghost use Rattle.thing_site.specs.Refusals as refusal;
 ghost use Rattle.thing_site.specs.HandedIn.{AreInputsTaken, AreInputsRefused, HasNoInputs, IsRefusedByRequest, IsUnrefused};
 
 use crate::formats::{AnswerFormat, BodyFormat, judge_formats};
-use crate::{Act, HeldThing, Input, Spot};
+use crate::{HeldThing, Input, Spot, ThingAct};
 use std::alloc::Global;
 use thing_ops::{Outcome, Request};
 use wot_json::{Members, ReadFault, Tree, read};
@@ -24,11 +24,11 @@ pub const LONGEST_VALUE: usize = 1024;
 /// order; or it is out of memory.
 pub fn judge<'a>(
     alloc: Global,
-    act: &Act<'a>,
+    act: &ThingAct<'a>,
     request: &Request<'_>,
 ) -> Result<Vec<Input<'a>>, Outcome>
-    ensures ok { IfOk result (λ inputs. IsUnrefused act.now (plain_request request.now) inputs.items) }
-    ensures fault { IfErr result (λ o. IsRefusedByRequest act.now (plain_request request.now) o) }
+    ensures ok { IfOk result (λ inputs. IsUnrefused act.now (request_seen request.now) inputs.items) }
+    ensures fault { IfErr result (λ o. IsRefusedByRequest act.now (request_seen request.now) o) }
 {
     let (answer, body) = formats_of(act);
     judge_formats(answer, body, request)?;
@@ -38,19 +38,19 @@ pub fn judge<'a>(
 }
 
 /// The formats of an act: that of its answer, and that of its body.
-fn formats_of(act: &Act<'_>) -> (AnswerFormat, BodyFormat)
+fn formats_of(act: &ThingAct<'_>) -> (AnswerFormat, BodyFormat)
     ensures answer { result.0 ≡ refusal.answer_format act.now }
     ensures body { result.1 ≡ refusal.body_format act.now }
 {
     match act {
-        Act::Describes(_) => (AnswerFormat::Description, BodyFormat::Description),
-        Act::ReadsAll(_)
-        | Act::Reads(_)
-        | Act::Invokes(_)
-        | Act::Queries(_, _)
-        | Act::ReadsEvent(_)
-        | Act::Waits(_) => (AnswerFormat::Json, BodyFormat::Json),
-        Act::WritesMany(_) | Act::Writes(_) | Act::Cancels(_, _) => (
+        ThingAct::Describes(_) => (AnswerFormat::Description, BodyFormat::Description),
+        ThingAct::ReadsAll(_)
+        | ThingAct::Reads(_)
+        | ThingAct::Invokes(_)
+        | ThingAct::Queries(_, _)
+        | ThingAct::ReadsEvent(_)
+        | ThingAct::Waits(_) => (AnswerFormat::Json, BodyFormat::Json),
+        ThingAct::WritesMany(_) | ThingAct::Writes(_) | ThingAct::Cancels(_, _) => (
             AnswerFormat::Any,
             BodyFormat::Json,
         ),
@@ -58,21 +58,21 @@ fn formats_of(act: &Act<'_>) -> (AnswerFormat, BodyFormat)
 }
 
 /// Reads what a body hands in to an act.
-fn inputs_of<'a>(alloc: Global, act: &Act<'a>, body: &[u8]) -> Result<Vec<Input<'a>>, Outcome>
+fn inputs_of<'a>(alloc: Global, act: &ThingAct<'a>, body: &[u8]) -> Result<Vec<Input<'a>>, Outcome>
     ensures ok { IfOk result (λ inputs. refusal.inputs_of act.now body.now ≡ Some inputs.items) }
     ensures fault { IfErr result (λ o. HasNoInputs (refusal.inputs_of act.now body.now) o) }
 {
     match act {
-        Act::WritesMany(thing) => object_inputs(alloc, thing.thing(), body),
-        Act::Writes(spot) => one_input(alloc, spot, body),
-        Act::Invokes(spot) => invoke_inputs(alloc, spot, body),
-        Act::Describes(_)
-        | Act::ReadsAll(_)
-        | Act::Reads(_)
-        | Act::Queries(_, _)
-        | Act::Cancels(_, _)
-        | Act::ReadsEvent(_)
-        | Act::Waits(_) => no_inputs(alloc, body),
+        ThingAct::WritesMany(thing) => object_inputs(alloc, thing.thing(), body),
+        ThingAct::Writes(spot) => one_input(alloc, spot, body),
+        ThingAct::Invokes(spot) => invoke_inputs(alloc, spot, body),
+        ThingAct::Describes(_)
+        | ThingAct::ReadsAll(_)
+        | ThingAct::Reads(_)
+        | ThingAct::Queries(_, _)
+        | ThingAct::Cancels(_, _)
+        | ThingAct::ReadsEvent(_)
+        | ThingAct::Waits(_) => no_inputs(alloc, body),
     }
 }
 

@@ -37,7 +37,7 @@ use Rattle.tm_derive.specs.Optional.{is_among, base_of, base_url, of_base, optio
 use Rattle.tm_derive.specs.Submodels.{child_name, child_place, named_child, link_child, name_faults, target_kind, link_kind, target_faults as faults_of_target, link_faults, children_from, segments_of, submodel_faults}
 use Rattle.tm_derive.specs.Derivation.{Outcome, outcome, outcomes, outcomes_within, unless_faulty, thing_faults, choosing_faults, tree_faults, thing_tree, submodels, children, root_place}
 use Rattle.tm_derive.specs.declared.fault.DeriveFault.{DeriveFault}
-use Rattle.tm_derive.specs.declared.place.Place.{Place}
+use Rattle.tm_derive.specs.declared.place.ThingPlace.{ThingPlace}
 use Rattle.tm_derive.specs.Enough.{MoreThingsChangeNothing, MoreModelsChangeNothing}
 
 -- ---- visits
@@ -104,14 +104,14 @@ entered_is sources chain url w new is =
 -- the outcomes of a Thing are the same at both rooms, wherever its model isn't above and its visits stay near
 abbrev Agree : ℕ → ℕ → Given → List (List ℕ) → Step → Type 0
 Agree a b given above step =
-    (place : Place) → is_among place.model above ≡ false → Near (step Thing 0 (way above) (whole_of place.model))
+    (place : ThingPlace) → is_among place.model above ≡ false → Near (step Thing 0 (way above) (whole_of place.model))
     → outcomes_within a given above place ≡ outcomes_within b given above place
 
 abbrev linked_visits : Step → List Reference → Option Reference → List Visit
 linked_visits step chain model = elim model as (λ _. List Visit) [ None ↦ [] | Some m ↦ step Thing 0 chain m ]
 
 -- a link that has no fault leads to a model that isn't above
-leads_on : (models : Models) (above : List (List ℕ)) (place : Place) (index : ℕ) (url : List ℕ)
+leads_on : (models : Models) (above : List (List ℕ)) (place : ThingPlace) (index : ℕ) (url : List ℕ)
     → faults_of_target place index (target_kind models above place.model url) ≡ [] → (is_among url above || bytes_eq url place.model) ≡ false
 leads_on models above place index url none = by (is_none (member_named url models)) (is_among url above || bytes_eq url place.model) none
   where
@@ -120,7 +120,7 @@ leads_on models above place index url none = by (is_none (member_named url model
     by false true none = absurd cc
     by false false none = refl
 
-child_agrees : (a b : ℕ) (given : Given) (above : List (List ℕ)) (place : Place) (step : Step) (index : ℕ) (name : Option (List ℕ)) (url : Option (List ℕ))
+child_agrees : (a b : ℕ) (given : Given) (above : List (List ℕ)) (place : ThingPlace) (step : Step) (index : ℕ) (name : Option (List ℕ)) (url : Option (List ℕ))
     → Agree a b given (above ++ place.model ∷ []) step → Near (linked_visits step (way (above ++ place.model ∷ [])) (option_map whole_of url))
     → faults_of_target place index (link_kind given.models above place.model (option_map (λ (m : Reference). m.url) (option_map whole_of url))) ≡ []
     → flat_map (outcomes_within a given (above ++ place.model ∷ [])) (named_child place name (option_map (λ (m : Reference). m.url) (option_map whole_of url)))
@@ -137,11 +137,11 @@ submodel_text = codes "tm:submodel"
 abbrev links_among : List ℕ → ℕ → List Json → List ModelLink
 links_among url index vs = map (model_link url) (links_from submodel_text index vs)
 
-abbrev things_under : ℕ → Given → List (List ℕ) → Place → ℕ → List ModelLink → List Outcome
+abbrev things_under : ℕ → Given → List (List ℕ) → ThingPlace → ℕ → List ModelLink → List Outcome
 things_under room given above place number links = flat_map (outcomes_within room given (above ++ place.model ∷ [])) (children_from place number links)
 
 -- one link, and then the others
-first_agrees : (c : Bool) (a b : ℕ) (given : Given) (above : List (List ℕ)) (place : Place) (step : Step) (index number : ℕ) (earlier : List (List ℕ)) (v : Json) (more : List (ℕ × Json)) (rest : List Visit)
+first_agrees : (c : Bool) (a b : ℕ) (given : Given) (above : List (List ℕ)) (place : ThingPlace) (step : Step) (index number : ℕ) (earlier : List (List ℕ)) (v : Json) (more : List (ℕ × Json)) (rest : List Visit)
     → Agree a b given (above ++ place.model ∷ []) step
     → Near (cond c (linked_visits step (way (above ++ place.model ∷ [])) (linked_model place.model v)) [] ++ rest)
     → ((n : ℕ) (before : List (List ℕ)) → Near rest → submodel_faults given.models above place before n (map (model_link place.model) more) ≡ []
@@ -166,7 +166,7 @@ first_agrees true a b given above place step index number earlier v more rest ag
     ∙ (ap₂ (λ (x y : List Outcome). x ++ y) first then
     ∙ sym (flat_map-append (outcomes_within b given (above ++ place.model ∷ [])) (link_child place number link) (children_from place (number + 1) (map (model_link place.model) more))))
 
-links_agree : (a b : ℕ) (given : Given) (above : List (List ℕ)) (place : Place) (step : Step) (index number : ℕ) (earlier : List (List ℕ)) (vs : List Json) → Agree a b given (above ++ place.model ∷ []) step
+links_agree : (a b : ℕ) (given : Given) (above : List (List ℕ)) (place : ThingPlace) (step : Step) (index number : ℕ) (earlier : List (List ℕ)) (vs : List Json) → Agree a b given (above ++ place.model ∷ []) step
     → Near (flat_map (submodel_visits step place.model (way (above ++ place.model ∷ []))) vs) → submodel_faults given.models above place earlier number (links_among place.model index vs) ≡ []
     → things_under a given above place number (links_among place.model index vs) ≡ things_under b given above place number (links_among place.model index vs)
 links_agree a b given above place step index number earlier [] agree near none = refl
@@ -175,7 +175,7 @@ links_agree a b given above place step index number earlier (v ∷ vs) agree nea
     (λ n before visits faultless. links_agree a b given above place step (index + 1) n before vs agree visits faultless) none
 
 -- no fault of a Thing is one of its links
-no_links_fault : (given : Given) (above : List (List ℕ)) (place : Place) (r : Result Json ResolveFault) → thing_faults given above place r ≡ [] → submodel_faults given.models above place [] 1 (submodels given place) ≡ []
+no_links_fault : (given : Given) (above : List (List ℕ)) (place : ThingPlace) (r : Result Json ResolveFault) → thing_faults given above place r ≡ [] → submodel_faults given.models above place [] 1 (submodels given place) ≡ []
 no_links_fault given above place (Err e) none = absurd cc
 no_links_fault given above place (Ok value) none =
     nothing_left (submodel_faults given.models above place [] 1 (submodels given place)) (tree_faults place.segment (thing_tree given place value))
@@ -195,13 +195,13 @@ at_end sources chain target e = elim e as (λ _. List Visit) [ None ↦ [] | Som
 abbrev within : ℕ → Sources → Role → List Reference → Reference → Option Json → List Visit
 within room sources role chain target e = elim e as (λ _. List Visit) [ None ↦ [] | Some part ↦ target_visits (visits_within room sources) role 0 (chain ++ target ∷ []) target part ]
 
-last_agrees : (a b : ℕ) (given : Given) (above : List (List ℕ)) (place : Place) (w : Option Json) → length (way above) ≡ most_entries
+last_agrees : (a b : ℕ) (given : Given) (above : List (List ℕ)) (place : ThingPlace) (w : Option Json) → length (way above) ≡ most_entries
     → Near (at_end given.sources (way above) (whole_of place.model) (option_and_then (part_of []) w))
     → things_under a given above place 1 (links_in place.model w) ≡ things_under b given above place 1 (links_in place.model w)
 last_agrees a b given above place None full near = refl
 last_agrees a b given above place (Some whole) full near = absurd (beyond (way above) (whole_of place.model) 0 whole full near)
 
-more_agree : (room a b : ℕ) (given : Given) (above : List (List ℕ)) (place : Place) (w : Option Json) → Agree a b given (above ++ place.model ∷ []) (visits_within room given.sources)
+more_agree : (room a b : ℕ) (given : Given) (above : List (List ℕ)) (place : ThingPlace) (w : Option Json) → Agree a b given (above ++ place.model ∷ []) (visits_within room given.sources)
     → Near (within room given.sources Thing (way above) (whole_of place.model) (option_and_then (part_of []) w)) → submodel_faults given.models above place [] 1 (links_in place.model w) ≡ []
     → things_under a given above place 1 (links_in place.model w) ≡ things_under b given above place 1 (links_in place.model w)
 more_agree room a b given above place None agree near none = refl

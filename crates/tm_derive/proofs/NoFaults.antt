@@ -25,7 +25,7 @@ use Rattle.tm_derive.specs.Submodels.{allowed_name, below, child_name, children_
 use Rattle.tm_derive.specs.Segments.{is_plain_segment, is_segment_byte}
 use Rattle.tm_derive.specs.Derivation.{Outcome, Things, all_faults, children, choosing_faults, derived, invalid_fault, outcome, outcomes, outcomes_within, root_place, submodels, thing_faults, thing_of, thing_tree, things_or_fault, tree_faults, tree_of, unbound_faults, unless_faulty}
 use Rattle.tm_derive.specs.declared.frame.Frame.{Frame}
-use Rattle.tm_derive.specs.declared.place.Place.{Place}
+use Rattle.tm_derive.specs.declared.place.ThingPlace.{ThingPlace}
 use Rattle.tm_derive.specs.declared.fault.DeriveFault.{DeriveFault}
 use Rattle.tm_derive.specs.declared.fault.DeriveFault.TheVariants.{TwiceInstance}
 
@@ -208,7 +208,7 @@ new_name true e none = absurd (cc)
 new_name false e none = refl
 
 -- a child, and then more
-child_then : (place : Place) (earlier : List (List ℕ)) (index : ℕ) (found target : Option (List ℕ)) (more : List Place) → IsAllowed found → name_faults place earlier index found ≡ []
+child_then : (place : ThingPlace) (earlier : List (List ℕ)) (index : ℕ) (found target : Option (List ℕ)) (more : List ThingPlace) → IsAllowed found → name_faults place earlier index found ≡ []
     → AreChildren place.segment (earlier ++ segments_of (named_child place found target)) (segments_of more)
     → AreChildren place.segment earlier (segments_of (named_child place found target ++ more))
 child_then place earlier index None target more ok none are =
@@ -223,7 +223,7 @@ child_then place earlier index (Some name) (Some url) more ok none are =
       apart = (each (λ s. is_among s (earlier ++ child ∷ []) ≡ false) (λ s. child ≢ s) (λ s is. (not_earlier s child earlier is).1) (segments_of more) are.new, are.apart);
     }
 
-children_are : (models : Models) (above : List (List ℕ)) (place : Place) (earlier : List (List ℕ)) (number : ℕ) (links : List ModelLink) → submodel_faults models above place earlier number links ≡ []
+children_are : (models : Models) (above : List (List ℕ)) (place : ThingPlace) (earlier : List (List ℕ)) (number : ℕ) (links : List ModelLink) → submodel_faults models above place earlier number links ≡ []
     → AreChildren place.segment earlier (segments_of (children_from place number links))
 children_are models above place earlier number [] none = record { names = tt; new = tt; apart = tt }
 children_are models above place earlier number (link ∷ links) none =
@@ -236,7 +236,7 @@ children_are models above place earlier number (link ∷ links) none =
 
 -- ---- one Thing
 
-links_faultless : (given : Given) (above : List (List ℕ)) (place : Place) (value : Result Json ResolveFault) → thing_faults given above place value ≡ []
+links_faultless : (given : Given) (above : List (List ℕ)) (place : ThingPlace) (value : Result Json ResolveFault) → thing_faults given above place value ≡ []
     → submodel_faults given.models above place [] 1 (submodels given place) ≡ []
 links_faultless given above place (Err e) none = absurd (cc)
 links_faultless given above place (Ok value) none =
@@ -247,7 +247,7 @@ abbrev pub HasValid : Option Json → Type 0
 HasValid None = ⊥
 HasValid (Some tree) = IsValid tree
 
-has_valid : (given : Given) (above : List (List ℕ)) (place : Place) (value : Result Json ResolveFault) → thing_faults given above place value ≡ [] → HasValid (tree_of given place value)
+has_valid : (given : Given) (above : List (List ℕ)) (place : ThingPlace) (value : Result Json ResolveFault) → thing_faults given above place value ≡ [] → HasValid (tree_of given place value)
 has_valid given above place (Err e) none = absurd (cc)
 has_valid given above place (Ok value) none =
     let tree : Json = thing_tree given place value in
@@ -269,24 +269,24 @@ pub record AreSound (segment : List ℕ) (os : List Outcome) : Type 0 where
   pub apart : Differ (segments_in os)
 
 -- those of places are sound, each apart from the others
-abbrev pub EachSound : (Place → List Outcome) → Type 0
-EachSound of_place = (place : Place) → faults_in (of_place place) ≡ [] → AreSound place.segment (of_place place)
+abbrev pub EachSound : (ThingPlace → List Outcome) → Type 0
+EachSound of_place = (place : ThingPlace) → faults_in (of_place place) ≡ [] → AreSound place.segment (of_place place)
 
-first_faultless : (of_place : Place → List Outcome) (place : Place) (places : List Place) → faults_in (flat_map of_place (place ∷ places)) ≡ [] → faults_in (of_place place) ≡ []
+first_faultless : (of_place : ThingPlace → List Outcome) (place : ThingPlace) (places : List ThingPlace) → faults_in (flat_map of_place (place ∷ places)) ≡ [] → faults_in (of_place place) ≡ []
 first_faultless of_place place places none = none_first (faults_in (of_place place)) (faults_in (flat_map of_place places)) (sym (flat_map-append (λ (o : Outcome). o.faults) (of_place place) (flat_map of_place places)) ∙ none)
 
-others_faultless : (of_place : Place → List Outcome) (place : Place) (places : List Place) → faults_in (flat_map of_place (place ∷ places)) ≡ [] → faults_in (flat_map of_place places) ≡ []
+others_faultless : (of_place : ThingPlace → List Outcome) (place : ThingPlace) (places : List ThingPlace) → faults_in (flat_map of_place (place ∷ places)) ≡ [] → faults_in (flat_map of_place places) ≡ []
 others_faultless of_place place places none = none_second (faults_in (of_place place)) (faults_in (flat_map of_place places)) (sym (flat_map-append (λ (o : Outcome). o.faults) (of_place place) (flat_map of_place places)) ∙ none)
 
-all_valid : (of_place : Place → List Outcome) → EachSound of_place → (places : List Place) → faults_in (flat_map of_place places) ≡ [] → AllByRecursion (λ o. HasValid o.tree) (flat_map of_place places)
+all_valid : (of_place : ThingPlace → List Outcome) → EachSound of_place → (places : List ThingPlace) → faults_in (flat_map of_place places) ≡ [] → AllByRecursion (λ o. HasValid o.tree) (flat_map of_place places)
 all_valid of_place sound [] none = tt
 all_valid of_place sound (place ∷ places) none =
     each_of_both (λ o. HasValid o.tree) (of_place place) (flat_map of_place places)
     (sound place (first_faultless of_place place places none)).valid (all_valid of_place sound places (others_faultless of_place place places none))
 
 -- a property of all segments at and below these
-all_segments : (of_place : Place → List Outcome) → EachSound of_place → (P Q : List ℕ → Type 0) → ((segment : List ℕ) → P segment → (s : List ℕ) → IsAtOrBelow segment s → Q s)
-    → (places : List Place) → AllByRecursion P (segments_of places) → faults_in (flat_map of_place places) ≡ [] → AllByRecursion Q (segments_in (flat_map of_place places))
+all_segments : (of_place : ThingPlace → List Outcome) → EachSound of_place → (P Q : List ℕ → Type 0) → ((segment : List ℕ) → P segment → (s : List ℕ) → IsAtOrBelow segment s → Q s)
+    → (places : List ThingPlace) → AllByRecursion P (segments_of places) → faults_in (flat_map of_place places) ≡ [] → AllByRecursion Q (segments_in (flat_map of_place places))
 all_segments of_place sound P Q gives [] all none = tt
 all_segments of_place sound P Q gives (place ∷ places) all none =
     subst (λ (ss : List (List ℕ)). AllByRecursion Q ss) (sym (map-append (λ (o : Outcome). o.segment) (of_place place) (flat_map of_place places)))
@@ -299,7 +299,7 @@ each_both : (P Q : List ℕ → Type 0) (xs : List (List ℕ)) → AllByRecursio
 each_both P Q [] ps qs = tt
 each_both P Q (x ∷ xs) ps qs = ((ps.0, qs.0), each_both P Q xs ps.1 qs.1)
 
-all_apart : (of_place : Place → List Outcome) → EachSound of_place → (segment : List ℕ) (places : List Place) → AllByRecursion (IsChild segment) (segments_of places) → Differ (segments_of places)
+all_apart : (of_place : ThingPlace → List Outcome) → EachSound of_place → (segment : List ℕ) (places : List ThingPlace) → AllByRecursion (IsChild segment) (segments_of places) → Differ (segments_of places)
     → faults_in (flat_map of_place places) ≡ [] → Differ (segments_in (flat_map of_place places))
 all_apart of_place sound segment [] names apart none = tt
 all_apart of_place sound segment (place ∷ places) names apart none =
@@ -314,7 +314,7 @@ all_apart of_place sound segment (place ∷ places) names apart none =
     (segments_in (of_place place)) own.within))
 
 -- a Thing, and those below it
-one_then : (of_place : Place → List Outcome) → EachSound of_place → (segment : List ℕ) (o : Outcome) (places : List Place) → o.segment ≡ segment → HasValid o.tree → AreChildren segment [] (segments_of places)
+one_then : (of_place : ThingPlace → List Outcome) → EachSound of_place → (segment : List ℕ) (o : Outcome) (places : List ThingPlace) → o.segment ≡ segment → HasValid o.tree → AreChildren segment [] (segments_of places)
     → faults_in (flat_map of_place places) ≡ [] → AreSound segment (o ∷ flat_map of_place places)
 one_then of_place sound segment o places is valid are none = record {
   valid = (valid, all_valid of_place sound places none);

@@ -10,7 +10,7 @@ use Rattle.tm_derive.specs.Given.{Given}
 use Rattle.tm_derive.specs.Derivation.{Outcome, Things, children, outcome, outcomes_within, thing_of, unless_faulty}
 use Rattle.tm_derive.specs.Making.{PutsThings}
 use Rattle.tm_derive.specs.Refusals.{IsRefusal}
-use Rattle.tm_derive.specs.declared.place.Place.{Place}
+use Rattle.tm_derive.specs.declared.place.ThingPlace.{ThingPlace}
 use Rattle.tm_derive.specs.declared.fault.DeriveFault.{DeriveFault}
 use Rattle.tm_derive.proofs.Outcomes.{refused_before, refused_after, none_then_none}
 
@@ -43,22 +43,22 @@ whole_both os ps first next = record {
 -- ---- the Things of several places
 
 -- the outcomes of places
-abbrev pub of_places : ℕ → Given → List (List ℕ) → List Place → List Outcome
+abbrev pub of_places : ℕ → Given → List (List ℕ) → List ThingPlace → List Outcome
 of_places room given above places = flat_map (outcomes_within room given above) places
 
 -- the Things of the places before an index were put, and these have no faults: what is left has all faults
-pub record PutsOn (room : ℕ) (given : Given) (above : List (List ℕ)) (places : List Place) (before now : Things) (index : ℕ) : Type 0 where
+pub record PutsOn (room : ℕ) (given : Given) (above : List (List ℕ)) (places : List ThingPlace) (before now : Things) (index : ℕ) : Type 0 where
   pub things : now ++ things_in (of_places room given above (drop index places)) ≡ before ++ things_in (of_places room given above places)
   pub faults : faults_in (of_places room given above (drop index places)) ≡ faults_in (of_places room given above places)
   pub segments : AreWhole (of_places room given above (drop index places)) → AreWhole (of_places room given above places)
 
 -- the outcomes left at an index, first those of the place there
-places_left : (room : ℕ) (given : Given) (above : List (List ℕ)) (places : List Place) (index : ℕ) (place : Place) → index < length places → place ≡ get_or places index place
+places_left : (room : ℕ) (given : Given) (above : List (List ℕ)) (places : List ThingPlace) (index : ℕ) (place : ThingPlace) → index < length places → place ≡ get_or places index place
     → of_places room given above (drop index places) ≡ outcomes_within room given above place ++ of_places room given above (drop (index + 1) places)
-places_left room given above places index place within is = ap (λ (ps : List Place). of_places room given above ps) (left_at places index place within is)
+places_left room given above places index place within is = ap (λ (ps : List ThingPlace). of_places room given above ps) (left_at places index place within is)
 
 -- a place whose Things were put goes on
-pub place_more : (room : ℕ) (given : Given) (above : List (List ℕ)) (places : List Place) (before now grown : Things) (index : ℕ) (place : Place)
+pub place_more : (room : ℕ) (given : Given) (above : List (List ℕ)) (places : List ThingPlace) (before now grown : Things) (index : ℕ) (place : ThingPlace)
     → index < length places → place ≡ get_or places index place → PutsOn room given above places before now index
     → grown ≡ now ++ things_in (outcomes_within room given above place) → faults_in (outcomes_within room given above place) ≡ []
     → map (λ (thing : List ℕ × Json). thing.0) (things_in (outcomes_within room given above place)) ≡ segments_in (outcomes_within room given above place)
@@ -83,7 +83,7 @@ place_more room given above places before now grown index place within is so_far
 -- ---- a Thing and those below it
 
 -- with room for a Thing, its outcome comes before those below it
-with_room : (room : ℕ) (given : Given) (above : List (List ℕ)) (place : Place) → 0 < room
+with_room : (room : ℕ) (given : Given) (above : List (List ℕ)) (place : ThingPlace) → 0 < room
     → outcomes_within room given above place
     ≡ outcome given above place ∷ unless_faulty (outcome given above place).faults (flat_map (outcomes_within (room - 1) given (above ++ place.model ∷ [])) (children given place))
 with_room zero given above place some = absurd (omega (arith, some))
@@ -92,7 +92,7 @@ with_room (suc room) given above place some =
     ap (λ (n : ℕ). outcome given above place ∷ unless_faulty (outcome given above place).faults (flat_map (outcomes_within n given (above ++ place.model ∷ [])) (children given place))) (sym less)
 
 -- a Thing that is refused
-pub thing_refused : (room : ℕ) (given : Given) (above : List (List ℕ)) (place : Place) (e : DeriveFault) → 0 < room
+pub thing_refused : (room : ℕ) (given : Given) (above : List (List ℕ)) (place : ThingPlace) (e : DeriveFault) → 0 < room
     → IsRefusal e (outcome given above place).faults → IsRefusal e (faults_in (outcomes_within room given above place))
 thing_refused room given above place e some refused =
     subst (λ (os : List Outcome). IsRefusal e (faults_in os)) (sym (with_room room given above place some)) (refused_before e (outcome given above place).faults _ refused)
@@ -108,14 +108,14 @@ after_one before middle after o os tree (Ok u) has none put puts =
     )
 after_one before middle after o os tree (Err e) has none put refused = refused_after e o.faults (faults_in os) none refused
 
-pub thing_put : (room : ℕ) (given : Given) (above inner : List (List ℕ)) (place : Place) (places : List Place) (tree : Json) (before middle after : Things) (r : Result (Unit {0}) DeriveFault) → 0 < room
+pub thing_put : (room : ℕ) (given : Given) (above inner : List (List ℕ)) (place : ThingPlace) (places : List ThingPlace) (tree : Json) (before middle after : Things) (r : Result (Unit {0}) DeriveFault) → 0 < room
     → (outcome given above place).tree ≡ Some tree → (outcome given above place).faults ≡ [] → middle ≡ before ++ (place.segment, tree) ∷ []
     → inner ≡ above ++ place.model ∷ [] → places ≡ children given place
     → PutsThings middle after (flat_map (outcomes_within (room - 1) given inner) places) r → PutsThings before after (outcomes_within room given above place) r
 thing_put room given above inner place places tree before middle after r some has none put inner_is places_are puts =
     let below : List Outcome = flat_map (outcomes_within (room - 1) given (above ++ place.model ∷ [])) (children given place) in
     let puts_below : PutsThings middle after below r =
-    subst (λ (ps : List Place). PutsThings middle after (flat_map (outcomes_within (room - 1) given (above ++ place.model ∷ [])) ps) r) places_are
+    subst (λ (ps : List ThingPlace). PutsThings middle after (flat_map (outcomes_within (room - 1) given (above ++ place.model ∷ [])) ps) r) places_are
     (subst (λ (ms : List (List ℕ)). PutsThings middle after (flat_map (outcomes_within (room - 1) given ms) places) r) inner_is puts) in
     subst (λ (os : List Outcome). PutsThings before after os r)
     (ap (λ (fs : List DeriveFault). outcome given above place ∷ unless_faulty fs below) (sym none) ∙ sym (with_room room given above place some))

@@ -14,16 +14,16 @@ use Rattle.tm_derive.specs.Optional.{choices_elsewhere}
 use Rattle.tm_derive.specs.Refusals.{IsRefusal}
 use Rattle.wot_terms.specs.ThingLists.{kept_things, segments_in}
 use Rattle.tm_derive.specs.declared.frame.Frame.{Frame}
-use Rattle.tm_derive.specs.declared.place.Place.{Place}
+use Rattle.tm_derive.specs.declared.place.ThingPlace.{ThingPlace}
 use Rattle.wot_terms.specs.declared.thing.Thing.{Thing}
 use Rattle.tm_derive.specs.declared.fault.DeriveFault.{DeriveFault}
 use Rattle.tm_derive.specs.declared.fault.DeriveFault.TheVariants.{NoMemory}
 use Rattle.tm_derive.proofs.Outcomes.{refused_before, refused_after, none_then_none}
 
 -- the outcomes that the code goes through
-pub outcomes_are : (given : Given) (root : List ℕ) (room : ℕ) (place : Place) → room ≡ most_below → place ≡ root_place given.frame root → outcomes_within room given [] place ≡ outcomes given root
+pub outcomes_are : (given : Given) (root : List ℕ) (room : ℕ) (place : ThingPlace) → room ≡ most_below → place ≡ root_place given.frame root → outcomes_within room given [] place ≡ outcomes given root
 outcomes_are given root room place room_is place_is =
-    ap (λ (n : ℕ). outcomes_within n given [] place) room_is ∙ ap (λ (p : Place). outcomes_within most_below given [] p) place_is
+    ap (λ (n : ℕ). outcomes_within n given [] place) room_is ∙ ap (λ (p : ThingPlace). outcomes_within most_below given [] p) place_is
 
 -- a refusal by all faults
 refused_whole : (choices : List Choice) (os : List Outcome) (e : DeriveFault) → IsRefusal e (all_faults choices os) → (e ≡ NoMemory) ⊎ (things_or_fault choices os ≡ Err e)

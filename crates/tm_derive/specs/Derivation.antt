@@ -19,31 +19,31 @@ use Rattle.tm_derive.specs.Dropping.{is_left_out, chosen_value}
 use Rattle.tm_derive.specs.Submodels.{children_from, segments_of, submodel_faults}
 use Rattle.tm_derive.specs.Finishing.{indices_of, description}
 use Rattle.tm_derive.specs.declared.frame.Frame.{Frame}
-use Rattle.tm_derive.specs.declared.place.Place.{Place}
+use Rattle.tm_derive.specs.declared.place.ThingPlace.{ThingPlace}
 use Rattle.tm_derive.specs.declared.fault.DeriveFault.{DeriveFault}
 use Rattle.tm_derive.specs.declared.fault.DeriveFault.TheVariants as fault
 
 -- ---- one Thing
 
 -- the links of the model of a Thing to its submodels, and to the models that it extends
-abbrev pub submodels : Given → Place → List ModelLink
+abbrev pub submodels : Given → ThingPlace → List ModelLink
 submodels given place = model_links given.sources place.model (codes "tm:submodel")
 
-abbrev pub extended : Given → Place → List ModelLink
+abbrev pub extended : Given → ThingPlace → List ModelLink
 extended given place = model_links given.sources place.model (codes "tm:extends")
 
 -- the Things that a Thing is composed of
-abbrev pub children : Given → Place → List Place
+abbrev pub children : Given → ThingPlace → List ThingPlace
 children given place = children_from place 1 (submodels given place)
 
 -- the texts of what is optional for a Thing
-abbrev pub optionals : Given → Place → List (List ℕ)
+abbrev pub optionals : Given → ThingPlace → List (List ℕ)
 optionals given place = optional_texts most_below given.sources place.model
 
 -- A description with these texts of what is optional and these parts, from the value of its model: without what
 -- is optional and not chosen, finished, and with the links to its own model, its parent and its parts in place
 -- of those to other models.
-abbrev pub thing_with : Given → Place → List (List ℕ) → List Place → Json → Json
+abbrev pub thing_with : Given → ThingPlace → List (List ℕ) → List ThingPlace → Json → Json
 thing_with given place texts parts value =
     description given.frame place
     (indices_of (extended given place) ++ indices_of (submodels given place))
@@ -51,13 +51,13 @@ thing_with given place texts parts value =
     (chosen_value (is_left_out texts given.choices place.segment) value)
 
 -- the description of a Thing
-abbrev pub thing_tree : Given → Place → Json → Json
+abbrev pub thing_tree : Given → ThingPlace → Json → Json
 thing_tree given place value = thing_with given place (optionals given place) (children given place) value
 
 -- ---- the faults of one Thing
 
 -- those of the lists of what is optional, and of the choices for this Thing
-abbrev pub choosing_faults : Given → Place → List DeriveFault
+abbrev pub choosing_faults : Given → ThingPlace → List DeriveFault
 choosing_faults given place =
     map (fault.Optional place.segment) (
     optional_faults most_below given.sources place.model ++ unlisted_choices (optionals given place) place.segment given.choices)
@@ -82,7 +82,7 @@ tree_faults segment tree = unbound_faults segment tree ++ invalid_faults segment
 
 -- The faults of a Thing below Things of these models: that of its model alone where that has no value; else those of
 -- what is optional, of its links to submodels, and of its description.
-abbrev pub thing_faults : Given → List (List ℕ) → Place → Result Json ResolveFault → List DeriveFault
+abbrev pub thing_faults : Given → List (List ℕ) → ThingPlace → Result Json ResolveFault → List DeriveFault
 thing_faults given above place (Err e) = fault.Resolve place.segment e ∷ []
 thing_faults given above place (Ok value) =
     choosing_faults given place
@@ -97,11 +97,11 @@ pub record Outcome : Type 0 where
   pub tree : Option Json
   pub faults : List DeriveFault
 
-abbrev pub tree_of : Given → Place → Result Json ResolveFault → Option Json
+abbrev pub tree_of : Given → ThingPlace → Result Json ResolveFault → Option Json
 tree_of given place (Err e) = None
 tree_of given place (Ok value) = Some (thing_tree given place value)
 
-abbrev pub outcome : Given → List (List ℕ) → Place → Outcome
+abbrev pub outcome : Given → List (List ℕ) → ThingPlace → Outcome
 outcome given above place = record {
   segment = place.segment;
   tree = tree_of given place (resolved_from given.sources place.model);
@@ -115,7 +115,7 @@ unless_faulty (e ∷ es) outcomes = []
 
 -- The outcomes of a Thing and of those that it is composed of, in preorder, below Things of these models, where n more
 -- may be one below another.
-abbrev pub outcomes_within : ℕ → Given → List (List ℕ) → Place → List Outcome
+abbrev pub outcomes_within : ℕ → Given → List (List ℕ) → ThingPlace → List Outcome
 outcomes_within zero given above place = []
 outcomes_within (suc room) given above place =
     outcome given above place
@@ -126,7 +126,7 @@ outcomes_within (suc room) given above place =
 
 -- The place of the root. Its expansion counts the chains of all Things, so where it isn't too large at most
 -- `most_below` of them are one below another.
-abbrev pub root_place : Frame → List ℕ → Place
+abbrev pub root_place : Frame → List ℕ → ThingPlace
 root_place frame root = record { segment = frame.segment; id = frame.id; model = root; parent = None }
 
 abbrev pub outcomes : Given → List ℕ → List Outcome

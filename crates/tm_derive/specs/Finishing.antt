@@ -11,7 +11,7 @@ use Rattle.wot_forms.specs.Generated.{is_object, generated}
 use Rattle.wot_forms.specs.declared.bases.Bases.{Bases}
 use Rattle.tm_derive.specs.Changes.{part_under, change_of}
 use Rattle.tm_derive.specs.declared.frame.Frame.{Frame}
-use Rattle.tm_derive.specs.declared.place.Place.{Place}
+use Rattle.tm_derive.specs.declared.place.ThingPlace.{ThingPlace}
 
 -- ---- `@type`
 
@@ -49,7 +49,7 @@ parent_links bases None = []
 parent_links bases (Some segment) = thing_link bases (codes "collection") segment ∷ []
 
 -- the links that come: to the model, to the Thing of which this one is a part, and to each part
-abbrev pub new_links : Bases → Place → List (List ℕ) → List Json
+abbrev pub new_links : Bases → ThingPlace → List (List ℕ) → List Json
 new_links bases place parts =
     link place.model (codes "type") (codes "application/tm+json")
     ∷ (parent_links bases place.parent ++ map (thing_link bases (codes "item")) parts)
@@ -119,15 +119,15 @@ patch_with instance id links value =
     ++ change_of (codes "version") (option_and_then (λ version. option_and_then (version_change version) (part_under (codes "version") value)) instance)
 
 -- the patch where the links at these indices leave and these come
-abbrev pub finishing_patch : Frame → Place → List ℕ → List Json → Json → List (List ℕ × Json)
+abbrev pub finishing_patch : Frame → ThingPlace → List ℕ → List Json → Json → List (List ℕ × Json)
 finishing_patch frame place leaving added value =
     patch_with frame.instance place.id (links_change leaving added (part_under (codes "links") value)) value
 
-abbrev pub finished_value : Frame → Place → List ℕ → List Json → Json → Json
+abbrev pub finished_value : Frame → ThingPlace → List ℕ → List Json → Json → Json
 finished_value frame place leaving added value =
     merge (merge value (object (members_of clearing_patch))) (object (members_of (finishing_patch frame place leaving added value)))
 
 -- the description of the Thing at this place, of these parts
-abbrev pub description : Frame → Place → List ℕ → List (List ℕ) → Json → Json
+abbrev pub description : Frame → ThingPlace → List ℕ → List (List ℕ) → Json → Json
 description frame place leaving parts value =
     generated (finished_value frame place leaving (new_links frame.bases place parts) value) frame.bases place.segment

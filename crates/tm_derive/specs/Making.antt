@@ -11,7 +11,7 @@ use Rattle.tm_derive.specs.Given.{Given}
 use Rattle.tm_derive.specs.Derivation.{Outcome, Things, children, thing_faults, thing_of, tree_of}
 use Rattle.tm_derive.specs.Refusals.{IsRefusal}
 use Rattle.tm_derive.specs.declared.made.Made.{Made}
-use Rattle.tm_derive.specs.declared.place.Place.{Place}
+use Rattle.tm_derive.specs.declared.place.ThingPlace.{ThingPlace}
 use Rattle.tm_derive.specs.declared.fault.DeriveFault.{DeriveFault}
 use Rattle.tm_derive.specs.declared.fault.DeriveFault.TheVariants.{NoMemory, Resolve}
 
@@ -21,25 +21,25 @@ Chooses texts faults (Ok found) = (found.items ≡ texts) × (faults ≡ [])
 Chooses texts faults (Err fault) = IsRefusal fault faults
 
 -- the fault says why the model of a Thing has no value
-abbrev pub IsNoValue : Given → Place → DeriveFault → Type 0
+abbrev pub IsNoValue : Given → ThingPlace → DeriveFault → Type 0
 IsNoValue given place (Resolve segment e) = (segment ≡ place.segment) × (resolved_from given.sources place.model ≡ Err e)
 IsNoValue given place fault = ⊥
 
 -- the model of a Thing has this value, or no value; or the call is out of memory
-abbrev pub Resolves : Given → Place → Result Tree DeriveFault → Type 0
+abbrev pub Resolves : Given → ThingPlace → Result Tree DeriveFault → Type 0
 Resolves given place (Ok t) = resolved_from given.sources place.model ≡ Ok (json_of t)
 Resolves given place (Err fault) = (fault ≡ NoMemory) ⊎ IsNoValue given place fault
 
 -- A Thing whose model has this value, or no value, is made with the Things that it is composed of, and has no faults;
 -- or the call is refused.
-abbrev pub MakesFrom : Given → List (List ℕ) → Place → Result Json ResolveFault → Result Made DeriveFault → Type 0
+abbrev pub MakesFrom : Given → List (List ℕ) → ThingPlace → Result Json ResolveFault → Result Made DeriveFault → Type 0
 MakesFrom given above place value (Ok made) =
     (tree_of given place value ≡ Some (json_of made.tree)) × (made.children.items ≡ children given place)
     × (thing_faults given above place value ≡ [])
 MakesFrom given above place value (Err fault) = IsRefusal fault (thing_faults given above place value)
 
 -- a Thing is made as its outcome says
-abbrev pub MakesThing : Given → List (List ℕ) → Place → Result Made DeriveFault → Type 0
+abbrev pub MakesThing : Given → List (List ℕ) → ThingPlace → Result Made DeriveFault → Type 0
 MakesThing given above place result = MakesFrom given above place (resolved_from given.sources place.model) result
 
 -- The call puts the Things of these outcomes after those that there were, where they have no faults; or it is refused.

@@ -6,7 +6,7 @@ use Rattle.tm_derive.specs.Optional.{is_entry}
 use Rattle.tm_resolve.specs.ModelLinks.{ModelLink}
 use Rattle.std.specs.Global.{Vec}
 use Rattle.tm_derive.specs.Submodels.{name_faults, link_child}
-use Rattle.tm_derive.specs.declared.place.Place.{Place}
+use Rattle.tm_derive.specs.declared.place.ThingPlace.{ThingPlace}
 use Rattle.tm_derive.specs.declared.fault.DeriveFault.{DeriveFault}
 use Rattle.tm_derive.specs.declared.fault.DeriveFault.TheVariants.{NoMemory}
 
@@ -30,16 +30,16 @@ ReadsEntry v None = is_entry v ≡ false
 ReadsEntry v (Some text) = (is_entry v ≡ true) × (v ≡ string text)
 
 -- the name of a link is this one, and has no fault; or the call is refused
-abbrev pub FindsName : Place → List (List ℕ) → ℕ → Option (List ℕ) → Result (List ℕ) DeriveFault → Type 0
+abbrev pub FindsName : ThingPlace → List (List ℕ) → ℕ → Option (List ℕ) → Result (List ℕ) DeriveFault → Type 0
 FindsName place earlier index found (Ok name) = (found ≡ Some name) × (name_faults place earlier index found ≡ [])
 FindsName place earlier index found (Err fault) = IsRefusal fault (name_faults place earlier index found)
 
 -- a link leads to this Thing, and has none of these faults; or the call is refused
-abbrev pub FindsChild : Place → ℕ → ModelLink → List DeriveFault → Result Place DeriveFault → Type 0
+abbrev pub FindsChild : ThingPlace → ℕ → ModelLink → List DeriveFault → Result ThingPlace DeriveFault → Type 0
 FindsChild place number link faults (Ok child) = (link_child place number link ≡ child ∷ []) × (faults ≡ [])
 FindsChild place number link faults (Err fault) = IsRefusal fault faults
 
 -- the call finds these places of Things, and none of these faults; or it is refused
-abbrev pub FindsPlaces : List Place → List DeriveFault → Result (Vec Place) DeriveFault → Type 0
+abbrev pub FindsPlaces : List ThingPlace → List DeriveFault → Result (Vec ThingPlace) DeriveFault → Type 0
 FindsPlaces places faults (Ok found) = (found.items ≡ places) × (faults ≡ [])
 FindsPlaces places faults (Err fault) = IsRefusal fault faults

@@ -13,7 +13,7 @@ use Rattle.tm_resolve.specs.declared.fault.ResolveFault.TheVariants.{At}
 use Rattle.tm_resolve.specs.declared.fault.ResolveKind.{ResolveKind}
 use Rattle.tm_resolve.specs.declared.fault.ResolveKind.TheVariants.{BadHref, MissingModel, Circular}
 use Rattle.tm_derive.specs.Optional.{is_among}
-use Rattle.tm_derive.specs.declared.place.Place.{Place}
+use Rattle.tm_derive.specs.declared.place.ThingPlace.{ThingPlace}
 use Rattle.tm_derive.specs.declared.fault.DeriveFault.{DeriveFault}
 use Rattle.tm_derive.specs.declared.fault.DeriveFault.TheVariants.{Resolve, Instance, TwiceInstance}
 
@@ -49,20 +49,20 @@ child_name segment number link = allowed_name segment (instance_name number link
 -- ---- one link
 
 -- the Thing of this name and model, below a Thing
-abbrev pub child_place : Place → List ℕ → List ℕ → Place
+abbrev pub child_place : ThingPlace → List ℕ → List ℕ → ThingPlace
 child_place place name url = record { segment = below place.segment name; id = below place.id name; model = url; parent = Some place.segment }
 
 -- the Thing that a link leads to, where it leads to one
-abbrev pub named_child : Place → Option (List ℕ) → Option (List ℕ) → List Place
+abbrev pub named_child : ThingPlace → Option (List ℕ) → Option (List ℕ) → List ThingPlace
 named_child place (Some name) (Some url) = child_place place name url ∷ []
 named_child place name target = []
 
-abbrev pub link_child : Place → ℕ → ModelLink → List Place
+abbrev pub link_child : ThingPlace → ℕ → ModelLink → List ThingPlace
 link_child place number link = named_child place (child_name place.segment number link) link.target
 
 -- The faults of the name of a link: it is one that an instance may have, and none that an earlier link has. The earlier
 -- Things of the same parent are recognised by their segments: two instances have one name exactly where those are one.
-abbrev pub name_faults : Place → List (List ℕ) → ℕ → Option (List ℕ) → List DeriveFault
+abbrev pub name_faults : ThingPlace → List (List ℕ) → ℕ → Option (List ℕ) → List DeriveFault
 name_faults place earlier index None = Instance place.segment (link_place index) ∷ []
 name_faults place earlier index (Some name) =
     if is_among (below place.segment name) earlier then TwiceInstance place.segment (link_place index) ∷ [] else []
@@ -80,12 +80,12 @@ abbrev pub link_kind : Models → List (List ℕ) → List ℕ → Option (List 
 link_kind models above model None = Some BadHref
 link_kind models above model (Some url) = target_kind models above model url
 
-abbrev pub target_faults : Place → ℕ → Option ResolveKind → List DeriveFault
+abbrev pub target_faults : ThingPlace → ℕ → Option ResolveKind → List DeriveFault
 target_faults place index None = []
 target_faults place index (Some kind) = Resolve place.segment (At kind place.model (link_place index)) ∷ []
 
 -- the faults of a link: first of its name, and then of what it leads to
-abbrev pub link_faults : Models → List (List ℕ) → Place → List (List ℕ) → ℕ → ModelLink → List DeriveFault
+abbrev pub link_faults : Models → List (List ℕ) → ThingPlace → List (List ℕ) → ℕ → ModelLink → List DeriveFault
 link_faults models above place earlier number link =
     name_faults place earlier link.index (child_name place.segment number link)
     ++ target_faults place link.index (link_kind models above place.model link.target)
@@ -93,15 +93,15 @@ link_faults models above place earlier number link =
 -- ---- all links
 
 -- the Things that the links lead to, of which the first has this number
-abbrev pub children_from : Place → ℕ → List ModelLink → List Place
+abbrev pub children_from : ThingPlace → ℕ → List ModelLink → List ThingPlace
 children_from place number [] = []
 children_from place number (link ∷ links) = link_child place number link ++ children_from place (number + 1) links
 
-abbrev pub segments_of : List Place → List (List ℕ)
+abbrev pub segments_of : List ThingPlace → List (List ℕ)
 segments_of places = map (λ place. place.segment) places
 
 -- the faults of the links, link by link, where the earlier links lead to Things of these segments
-abbrev pub submodel_faults : Models → List (List ℕ) → Place → List (List ℕ) → ℕ → List ModelLink → List DeriveFault
+abbrev pub submodel_faults : Models → List (List ℕ) → ThingPlace → List (List ℕ) → ℕ → List ModelLink → List DeriveFault
 submodel_faults models above place earlier number [] = []
 submodel_faults models above place earlier number (link ∷ links) =
     link_faults models above place earlier number link

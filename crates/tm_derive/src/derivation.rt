@@ -16,7 +16,7 @@ use crate::common::Common;
 use crate::fault::DeriveFault;
 use crate::frame::Frame;
 use crate::making::{make_thing, most_below};
-use crate::place::Place;
+use crate::place::ThingPlace;
 use crate::refusals::optional_fault;
 use servient_base::NoMemory;
 use std::alloc::Global;
@@ -78,10 +78,10 @@ fn derive_with(common: &Common<'_>, root: &str) -> Result<Things, DeriveFault>
 }
 
 /// The place of the root.
-fn root_place(alloc: Global, frame: &Frame, root: &str) -> Result<Place, NoMemory>
+fn root_place(alloc: Global, frame: &Frame, root: &str) -> Result<ThingPlace, NoMemory>
     ensures { IfOk result (λ place. place ≡ place_of_root frame.now root.now) }
 {
-    Ok(Place {
+    Ok(ThingPlace {
         segment: Text::copy_of(alloc, frame.segment.as_str())?,
         id: Text::copy_of(alloc, frame.id.as_str())?,
         model: Text::copy_of(alloc, root)?,
@@ -123,7 +123,7 @@ fn judge_elsewhere(
 fn put_thing(
     common: &Common<'_>,
     above: &[Text],
-    place: &Place,
+    place: &ThingPlace,
     room: usize,
     things: &mut Things,
 ) -> Result<(), DeriveFault>
@@ -150,7 +150,7 @@ fn put_thing(
 fn put_things(
     common: &Common<'_>,
     above: &[Text],
-    places: &[Place],
+    places: &[ThingPlace],
     room: usize,
     things: &mut Things,
 ) -> Result<(), DeriveFault>

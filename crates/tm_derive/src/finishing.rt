@@ -10,7 +10,7 @@ ghost use Rattle.tm_derive.specs.Finishing as spec;
 use crate::changes::push_change;
 use crate::frame::Frame;
 use crate::links::{links_change, new_links};
-use crate::place::Place;
+use crate::place::ThingPlace;
 use servient_base::NoMemory;
 use std::alloc::Global;
 use wot_forms::generate;
@@ -20,11 +20,11 @@ use wot_json::{Items, Members, Text, Tree, copy, merge_patch};
 #[derive(Drop)]
 pub(crate) struct Setting<'a> {
     pub(crate) frame: &'a Frame,
-    pub(crate) place: &'a Place,
+    pub(crate) place: &'a ThingPlace,
     /// The indices of the links of its model to other models.
     pub(crate) leaving: &'a [usize],
     /// The Things that it is composed of.
-    pub(crate) parts: &'a [Place],
+    pub(crate) parts: &'a [ThingPlace],
 }
 
 /// The description of a Thing, from the value of its model: finished, and with its forms.

@@ -9,10 +9,10 @@ ghost use Rattle.tm_derive.specs.Submodels.{segments_of};
 ghost use Rattle.tm_derive.specs.Finishing as spec;
 
 use crate::changes::push_change;
-use crate::place::Place;
+use crate::place::ThingPlace;
 use servient_base::NoMemory;
 use std::alloc::Global;
-use tm_resolve::Link;
+use tm_resolve::CountedLink;
 use wot_forms::Bases;
 use wot_json::{Items, Members, Text, Tree, copy};
 
@@ -105,7 +105,7 @@ fn is_at(index: usize, indices: &[usize]) -> bool
 }
 
 /// Puts the indices of links at the end of others.
-pub(crate) fn push_indices(indices: &mut Vec<usize>, links: &[Link]) -> Result<(), NoMemory>
+pub(crate) fn push_indices(indices: &mut Vec<usize>, links: &[CountedLink]) -> Result<(), NoMemory>
     ensures { OnOk result (indices.new.items ≡ indices.old.items ++ spec.indices_of (kept_links links.now)) }
 {
     for link in links {
@@ -118,8 +118,8 @@ pub(crate) fn push_indices(indices: &mut Vec<usize>, links: &[Link]) -> Result<(
 pub(crate) fn new_links(
     alloc: Global,
     bases: &Bases,
-    place: &Place,
-    parts: &[Place],
+    place: &ThingPlace,
+    parts: &[ThingPlace],
 ) -> Result<Items, NoMemory>
     ensures { IfOk result (λ items. items ≡ spec.new_links bases.now place.now (segments_of parts.now)) }
 {
@@ -137,7 +137,7 @@ pub(crate) fn new_links(
 fn push_parts(
     alloc: Global,
     bases: &Bases,
-    parts: &[Place],
+    parts: &[ThingPlace],
     links: &mut Items,
 ) -> Result<(), NoMemory>
     ensures { OnOk result (links.new ≡ links.old ++ map (spec.thing_link bases.now (codes "item")) (segments_of parts.now)) }

@@ -1,11 +1,11 @@
 //! The outcome of one Thing.
 
-use crate::place::Place;
+use crate::place::ThingPlace;
 use wot_json::Tree;
 
 /// A Thing, and those that it is composed of.
 #[derive(Drop)]
 pub(crate) struct Made {
     pub(crate) tree: Tree,
-    pub(crate) children: Vec<Place>,
+    pub(crate) children: Vec<ThingPlace>,
 }

@@ -21,17 +21,17 @@ use crate::judging::judge_tree;
 use crate::links::push_indices;
 use crate::made::Made;
 use crate::optional::{judge_choices, push_optional};
-use crate::place::Place;
+use crate::place::ThingPlace;
 use crate::submodels::{Parent, children_of};
 use servient_base::NoMemory;
-use tm_resolve::{Link, Relation, ResolveFault};
+use tm_resolve::{CountedLink, Relation, ResolveFault};
 use wot_json::{Text, Tree};
 
 /// Makes the description of the Thing at a place below Things of these models.
 pub(crate) fn make_thing(
     common: &Common<'_>,
     above: &[Text],
-    place: &Place,
+    place: &ThingPlace,
 ) -> Result<Made, DeriveFault>
     ensures { MakesThing (given_of common.now) above.now place.now result }
 {
@@ -43,7 +43,7 @@ pub(crate) fn make_thing(
 fn make_from(
     common: &Common<'_>,
     above: &[Text],
-    place: &Place,
+    place: &ThingPlace,
     value: &Tree,
 ) -> Result<Made, DeriveFault>
     ensures { MakesFrom (given_of common.now) above.now place.now (Ok (json_of value.now)) result }
@@ -56,7 +56,11 @@ fn make_from(
 }
 
 /// The Things that a Thing is composed of, below Things of these models.
-fn children(common: &Common<'_>, above: &[Text], place: &Place) -> Result<Vec<Place>, DeriveFault>
+fn children(
+    common: &Common<'_>,
+    above: &[Text],
+    place: &ThingPlace,
+) -> Result<Vec<ThingPlace>, DeriveFault>
     ensures { FindsPlaces (spec.children (given_of common.now) place.now)
         (submodel_faults common.now.library.now above.now place.now [] 1 (spec.submodels (given_of common.now) place.now)) result }
 {
@@ -71,7 +75,7 @@ fn children(common: &Common<'_>, above: &[Text], place: &Place) -> Result<Vec<Pl
 }
 
 /// The links of the model of a Thing to its submodels.
-fn submodels(common: &Common<'_>, place: &Place) -> Result<Vec<Link>, NoMemory>
+fn submodels(common: &Common<'_>, place: &ThingPlace) -> Result<Vec<CountedLink>, NoMemory>
     ensures { IfOk result (λ links. kept_links links.items ≡ spec.submodels (given_of common.now) place.now) }
 {
     common
@@ -80,7 +84,7 @@ fn submodels(common: &Common<'_>, place: &Place) -> Result<Vec<Link>, NoMemory>
 }
 
 /// The value of the model of a Thing.
-fn resolved(common: &Common<'_>, place: &Place) -> Result<Tree, DeriveFault>
+fn resolved(common: &Common<'_>, place: &ThingPlace) -> Result<Tree, DeriveFault>
     ensures { Resolves (given_of common.now) place.now result }
 {
     match common.resolver.resolve(place.model.as_str()) {
@@ -90,7 +94,7 @@ fn resolved(common: &Common<'_>, place: &Place) -> Result<Tree, DeriveFault>
 }
 
 /// The fault of a Thing whose model has no value. It is a function, because the fault of the model moves into it.
-fn no_value(common: &Common<'_>, place: &Place, fault: ResolveFault) -> DeriveFault
+fn no_value(common: &Common<'_>, place: &ThingPlace, fault: ResolveFault) -> DeriveFault
     ensures memory { fault ≡ ResolveFault.NoMemory → result ≡ DeriveFault.NoMemory }
     ensures fault { (result ≡ DeriveFault.NoMemory) ⊎ (result ≡ DeriveFault.Resolve place.now.segment fault) }
 {
@@ -109,7 +113,7 @@ fn no_value(common: &Common<'_>, place: &Place, fault: ResolveFault) -> DeriveFa
 }
 
 /// The texts of what is optional for a Thing, of which all choices for it are.
-fn choose(common: &Common<'_>, place: &Place) -> Result<Vec<Text>, DeriveFault>
+fn choose(common: &Common<'_>, place: &ThingPlace) -> Result<Vec<Text>, DeriveFault>
     ensures { Chooses (spec.optionals (given_of common.now) place.now)
         (spec.choosing_faults (given_of common.now) place.now) result }
 {
@@ -147,7 +151,7 @@ pub(crate) fn most_below() -> usize
 }
 
 /// The indices of the links of the model of a Thing to other models.
-fn leaving(common: &Common<'_>, place: &Place) -> Result<Vec<usize>, NoMemory>
+fn leaving(common: &Common<'_>, place: &ThingPlace) -> Result<Vec<usize>, NoMemory>
     ensures { IfOk result (λ indices. indices.items ≡ indices_of (spec.extended (given_of common.now) place.now)
         ++ indices_of (spec.submodels (given_of common.now) place.now)) }
 {
@@ -163,9 +167,9 @@ fn leaving(common: &Common<'_>, place: &Place) -> Result<Vec<usize>, NoMemory>
 /// The description of a Thing with these parts, from the value of its model, where these texts are optional.
 fn thing_tree(
     common: &Common<'_>,
-    place: &Place,
+    place: &ThingPlace,
     texts: &[Text],
-    parts: &[Place],
+    parts: &[ThingPlace],
     value: &Tree,
 ) -> Result<Tree, NoMemory>
     ensures { IfOk result (λ t. json_of t ≡ spec.thing_with (given_of common.now) place.now texts.now parts.now (json_of value.now)) }

@@ -4,7 +4,7 @@ use wot_json::Text;
 
 /// The place of a Thing.
 #[derive(Debug, Drop)]
-pub(crate) struct Place {
+pub(crate) struct ThingPlace {
     pub(crate) segment: Text,
     pub(crate) id: Text,
     /// The URL of its model.

@@ -11,13 +11,13 @@ ghost use Rattle.tm_derive.specs.Refusals.{FindsName, FindsChild, FindsPlaces};
 
 use crate::fault::DeriveFault;
 use crate::optional::is_among;
-use crate::place::Place;
+use crate::place::ThingPlace;
 use crate::refusals::{instance_fault, resolve_fault, twice_fault};
 use itoa::Buffer;
 use servient_base::NoMemory;
 use std::alloc::Global;
 use tm_parts::Library;
-use tm_resolve::{Link, ResolveFault, ResolveKind};
+use tm_resolve::{CountedLink, ResolveFault, ResolveKind};
 use wot_json::{Text, Tree, below_index};
 
 /// The most bytes of an instance name.
@@ -27,7 +27,7 @@ const MOST_NAME: usize = 32;
 const MOST_SEGMENT: usize = 255;
 
 /// The instance name of a link, the submodel link of this number, where it has one.
-fn instance_name(alloc: Global, number: usize, link: &Link) -> Result<Option<Text>, NoMemory>
+fn instance_name(alloc: Global, number: usize, link: &CountedLink) -> Result<Option<Text>, NoMemory>
     ensures { IfOk result (λ name. name ≡ spec.instance_name number (option_map json_of link.now.instance_name)) }
 {
     match &link.instance_name {
@@ -77,7 +77,7 @@ fn child_name(
     alloc: Global,
     segment: &str,
     number: usize,
-    link: &Link,
+    link: &CountedLink,
 ) -> Result<Option<Text>, NoMemory>
     ensures { IfOk result (λ name. name ≡ spec.child_name segment.now number (kept_link link.now)) }
 {
@@ -105,10 +105,15 @@ fn link_place(alloc: Global, index: usize) -> Result<Text, NoMemory>
 }
 
 /// The Thing of this name and model below a Thing.
-fn child_place(alloc: Global, place: &Place, name: &str, url: &str) -> Result<Place, NoMemory>
+fn child_place(
+    alloc: Global,
+    place: &ThingPlace,
+    name: &str,
+    url: &str,
+) -> Result<ThingPlace, NoMemory>
     ensures { IfOk result (λ child. child ≡ spec.child_place place.now name.now url.now) }
 {
-    Ok(Place {
+    Ok(ThingPlace {
         segment: below(alloc, place.segment.as_str(), name)?,
         id: below(alloc, place.id.as_str(), name)?,
         model: Text::copy_of(alloc, url)?,
@@ -123,11 +128,11 @@ pub(crate) struct Parent<'a> {
     pub(crate) library: &'a Library,
     /// The URLs of the models of the Things above, from the root on.
     pub(crate) above: &'a [Text],
-    pub(crate) place: &'a Place,
+    pub(crate) place: &'a ThingPlace,
 }
 
 /// One of these Things has this segment.
-fn is_taken(segment: &str, things: &[Place]) -> bool
+fn is_taken(segment: &str, things: &[ThingPlace]) -> bool
     ensures { result ≡ is_among_texts segment.now (spec.segments_of things.now) }
 {
     for thing in things {
@@ -141,9 +146,9 @@ fn is_taken(segment: &str, things: &[Place]) -> bool
 /// The instance name of a link, which is one that it may have, and none that an earlier link has.
 fn judge_name(
     parent: &Parent<'_>,
-    earlier: &[Place],
+    earlier: &[ThingPlace],
     number: usize,
-    link: &Link,
+    link: &CountedLink,
 ) -> Result<Text, DeriveFault>
     ensures { FindsName parent.now.place.now (spec.segments_of earlier.now) link.now.index
         (spec.child_name parent.now.place.now.segment number (kept_link link.now)) result }
@@ -178,10 +183,10 @@ fn target_kind(parent: &Parent<'_>, url: &str) -> Option<ResolveKind>
 /// The Thing that a link leads to.
 fn child_of(
     parent: &Parent<'_>,
-    earlier: &[Place],
+    earlier: &[ThingPlace],
     number: usize,
-    link: &Link,
-) -> Result<Place, DeriveFault>
+    link: &CountedLink,
+) -> Result<ThingPlace, DeriveFault>
     ensures { FindsChild parent.now.place.now number (kept_link link.now)
         (spec.link_faults parent.now.library.now parent.now.above.now parent.now.place.now
         (spec.segments_of earlier.now) number (kept_link link.now)) result }
@@ -211,7 +216,10 @@ fn target_fault(parent: &Parent<'_>, kind: ResolveKind, index: usize) -> DeriveF
 }
 
 /// The Things that the links of a model to submodels lead to, in their order.
-pub(crate) fn children_of(parent: &Parent<'_>, links: &[Link]) -> Result<Vec<Place>, DeriveFault>
+pub(crate) fn children_of(
+    parent: &Parent<'_>,
+    links: &[CountedLink],
+) -> Result<Vec<ThingPlace>, DeriveFault>
     ensures { FindsPlaces (spec.children_from parent.now.place.now 1 (kept_links links.now))
         (spec.submodel_faults parent.now.library.now parent.now.above.now parent.now.place.now [] 1 (kept_links links.now)) result }
 {
@@ -224,7 +232,7 @@ pub(crate) fn children_of(parent: &Parent<'_>, links: &[Link]) -> Result<Vec<Pla
 }
 
 /// Puts a Thing at the end.
-fn push_child(children: &mut Vec<Place>, child: Place) -> Result<(), NoMemory>
+fn push_child(children: &mut Vec<ThingPlace>, child: ThingPlace) -> Result<(), NoMemory>
     ensures { OnOk result (children.new.items ≡ children.old.items ++ child ∷ []) }
 {
     children.push(child)?;

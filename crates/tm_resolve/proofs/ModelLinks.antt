@@ -9,7 +9,7 @@ use Rattle.tm_parts.specs.Views.{seen}
 use Rattle.tm_parts.specs.declared.view.View.{View}
 use Rattle.tm_resolve.specs.Links.{reference_name, has_relation, is_link, links_from}
 use Rattle.tm_resolve.specs.ModelLinks.{ModelLink, model_link, kept_link, kept_links}
-use Rattle.tm_resolve.specs.declared.model_links.Link.{Link}
+use Rattle.tm_resolve.specs.declared.model_links.CountedLink.{CountedLink}
 use Rattle.tm_resolve.proofs.Loops.{left_at}
 
 -- something is found where something is there
@@ -36,17 +36,17 @@ next_found meaning links index link within is extends =
 -- ---- links that count, one after another
 
 -- the links made of those before an index, and those that the others will give
-abbrev pub LinksGoOn : (Tree → Json) → List ℕ → List ℕ → List Tree → List Link → ℕ → Type 0
+abbrev pub LinksGoOn : (Tree → Json) → List ℕ → List ℕ → List Tree → List CountedLink → ℕ → Type 0
 LinksGoOn meaning relation url list made index =
     kept_links made ++ map (model_link url) (links_from relation index (map meaning (drop index list))) ≡ map (model_link url) (links_from relation 0 (map meaning list))
 
 -- a link that counts is made
-pub link_more : (meaning : Tree → Json) (relation url : List ℕ) (list : List Tree) (made grown : List Link) (index : ℕ) (t : Tree) (link : Link) → index < length list → t ≡ get_or list index t → is_link relation (meaning t) ≡ true → kept_link link ≡ model_link url (index, meaning t)
+pub link_more : (meaning : Tree → Json) (relation url : List ℕ) (list : List Tree) (made grown : List CountedLink) (index : ℕ) (t : Tree) (link : CountedLink) → index < length list → t ≡ get_or list index t → is_link relation (meaning t) ≡ true → kept_link link ≡ model_link url (index, meaning t)
     → grown ≡ made ++ link ∷ [] → LinksGoOn meaning relation url list made index → LinksGoOn meaning relation url list grown (index + 1)
 link_more meaning relation url list made grown index t link within is counts link_is grown_is before =
     let left : drop index list ≡ t ∷ drop (index + 1) list = left_at list index t within is in
     let rest : List (ℕ × Json) = links_from relation (index + 1) (map meaning (drop (index + 1) list)) in
-    ap (λ (ls : List Link). kept_links ls ++ map (model_link url) rest) grown_is
+    ap (λ (ls : List CountedLink). kept_links ls ++ map (model_link url) rest) grown_is
     ∙ ap (λ (ls : List ModelLink). ls ++ map (model_link url) rest) (map_push kept_link made link)
     ∙ append_assoc (kept_links made) (kept_link link ∷ []) (map (model_link url) rest)
     ∙ ap (λ (l : ModelLink). kept_links made ++ l ∷ map (model_link url) rest) link_is
@@ -55,7 +55,7 @@ link_more meaning relation url list made grown index t link within is counts lin
     ∙ before
 
 -- another is passed over
-pub link_other : (meaning : Tree → Json) (relation url : List ℕ) (list : List Tree) (made : List Link) (index : ℕ) (t : Tree) → index < length list → t ≡ get_or list index t → is_link relation (meaning t) ≡ false
+pub link_other : (meaning : Tree → Json) (relation url : List ℕ) (list : List Tree) (made : List CountedLink) (index : ℕ) (t : Tree) → index < length list → t ≡ get_or list index t → is_link relation (meaning t) ≡ false
     → LinksGoOn meaning relation url list made index → LinksGoOn meaning relation url list made (index + 1)
 link_other meaning relation url list made index t within is other before =
     let left : drop index list ≡ t ∷ drop (index + 1) list = left_at list index t within is in
@@ -65,7 +65,7 @@ link_other meaning relation url list made index t within is other before =
     ∙ before
 
 -- the end of the links
-pub links_end : (meaning : Tree → Json) (relation url : List ℕ) (list : List Tree) (links : List Json) (made : List Link) (index : ℕ) → map meaning list ≡ links → length list ≤ index → LinksGoOn meaning relation url list made index
+pub links_end : (meaning : Tree → Json) (relation url : List ℕ) (list : List Tree) (links : List Json) (made : List CountedLink) (index : ℕ) → map meaning list ≡ links → length list ≤ index → LinksGoOn meaning relation url list made index
     → kept_links made ≡ map (model_link url) (links_from relation 0 links)
 links_end meaning relation url list links made index same past before =
     sym (append-nil (kept_links made))

@@ -4,7 +4,7 @@ use Rattle.std.specs.List.{list_any}
 use Rattle.tm_parts.specs.Sources.{Sources}
 use Rattle.tm_parts.specs.declared.reference.Reference.{Reference}
 use Rattle.tm_resolve.specs.Weight.{Visit, Step, most_entries, visits_within, is_too_far, weight_of}
-use Rattle.tm_resolve.specs.declared.sources.Sources as kept
+use Rattle.tm_resolve.specs.declared.sources.StepSources as kept
 use Rattle.tm_resolve.specs.declared.weight.Stop.{Stop}
 use Rattle.tm_resolve.specs.declared.weight.Stop.TheVariants.{TooLarge, NoMemory}
 

@@ -9,7 +9,7 @@ use Rattle.tm_parts.specs.Sources.{Sources, source_named}
 use Rattle.tm_resolve.specs.Links.{links_from, links_under, linked_model}
 use Rattle.tm_resolve.specs.declared.model_links.Relation.{Relation}
 use Rattle.tm_resolve.specs.declared.model_links.Relation.TheVariants.{Extends, Submodel}
-use Rattle.tm_resolve.specs.declared.model_links.Link.{Link}
+use Rattle.tm_resolve.specs.declared.model_links.CountedLink.{CountedLink}
 
 -- the relation of a link as it is written (Thing Description 1.1, section "Thing Model")
 abbrev pub relation_text : Relation → List ℕ
@@ -48,8 +48,8 @@ abbrev pub optional_part : Sources → List ℕ → Option Json
 optional_part sources url = option_and_then (λ whole. member_named (codes "tm:optional") (members_under whole)) (whole_model sources url)
 
 -- the links of the code, as contracts see them
-abbrev pub kept_link : Link → ModelLink
+abbrev pub kept_link : CountedLink → ModelLink
 kept_link link = record { index = link.index; target = link.target; instance_name = option_map json_of link.instance_name }
 
-abbrev pub kept_links : List Link → List ModelLink
+abbrev pub kept_links : List CountedLink → List ModelLink
 kept_links = map kept_link

@@ -9,7 +9,7 @@ use Rattle.tm_parts.specs.declared.reference.Reference.{Reference}
 use Rattle.tm_resolve.specs.Value.{value_within}
 use Rattle.tm_resolve.specs.Faults.{Steps, faults_within}
 use Rattle.tm_resolve.specs.Weight.{most_entries}
-use Rattle.tm_resolve.specs.declared.sources.Sources as kept
+use Rattle.tm_resolve.specs.declared.sources.StepSources as kept
 use Rattle.tm_resolve.specs.declared.fault.ResolveFault.{ResolveFault}
 use Rattle.tm_resolve.specs.declared.fault.ResolveFault.TheVariants.{NoMemory}
 

@@ -39,7 +39,7 @@ mod weight;
 
 pub use fault::{ResolveFault, ResolveKind};
 pub use laws::{links_are_the_models_own, room_is_enough, things_are_few, too_large_is_exact};
-pub use model_links::{Link, Relation};
+pub use model_links::{CountedLink, Relation};
 pub use resolver::{Resolver, resolve};
 pub use servient_base::NoMemory;
 // Definitions of other crates name it: `tm_derive` has a law on the chains of an expansion.

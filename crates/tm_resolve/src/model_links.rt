@@ -38,7 +38,7 @@ impl Relation {
 
 /// A link of a model that counts.
 #[derive(Debug, Drop)]
-pub struct Link {
+pub struct CountedLink {
     /// Its index among all links of the model, from 0.
     pub index: usize,
     /// The URL of the model that it leads to, without a fragment. None where `href` is no text or can't be joined to
@@ -53,7 +53,7 @@ pub(crate) fn model_links(
     alloc: Global,
     whole: Part<'_>,
     relation: &str,
-) -> Result<Vec<Link>, NoMemory>
+) -> Result<Vec<CountedLink>, NoMemory>
     ensures { IfOk result (λ links. kept_links links.items ≡ links_of relation.now whole.entry.from.now (seen whole.entry.view)) }
 {
     let list = links_under(whole.view);
@@ -78,10 +78,10 @@ fn model_link(
     from: &Location,
     index: usize,
     link: View<'_>,
-) -> Result<Link, NoMemory>
+) -> Result<CountedLink, NoMemory>
     ensures { IfOk result (λ l. kept_link l ≡ link_seen from.now (index, seen link.entry)) }
 {
-    Ok(Link {
+    Ok(CountedLink {
         index,
         target: target_url(alloc, from, link)?,
         instance_name: built_member(alloc, link, "instanceName")?,

@@ -7,8 +7,8 @@ ghost use Rattle.tm_parts.specs.Views.{seen};
 ghost use Rattle.tm_resolve.specs.Resolution.{resolved_from, resolved_model};
 
 use crate::fault::{ResolveFault, ResolveKind};
-use crate::model_links::{Link, Relation, built_member, model_links};
-use crate::sources::{Part, Sources};
+use crate::model_links::{CountedLink, Relation, built_member, model_links};
+use crate::sources::{Part, StepSources};
 use crate::walk::target_value;
 use crate::weight::is_too_large;
 use servient_base::NoMemory;
@@ -21,7 +21,7 @@ use wot_json::{Text, Tree};
 /// models by their URLs, each with its values or with the first fault of the substitution.
 #[derive(Drop)]
 pub struct Resolver<'a> {
-    sources: Sources<'a>,
+    sources: StepSources<'a>,
 }
 
 impl<'a> Resolver<'a> {
@@ -38,7 +38,7 @@ impl<'a> Resolver<'a> {
         ensures { IfOk result (λ r. resolver_models r ≡ sources_of library.now bindings.now) }
     {
         Ok(Resolver {
-            sources: Sources {
+            sources: StepSources {
                 alloc,
                 models: tm_parts::Sources::new(alloc, library, bindings)?,
             },
@@ -82,7 +82,7 @@ impl<'a> Resolver<'a> {
     /// The links with this relation of the model under the URL that count, in their order: objects in its list `links`
     /// without `tm:ref`. There are none where the library doesn't have the model or its substitution has a fault,
     /// because `resolve` reports that.
-    pub fn links(&self, url: &str, relation: Relation) -> Result<Vec<Link>, NoMemory>
+    pub fn links(&self, url: &str, relation: Relation) -> Result<Vec<CountedLink>, NoMemory>
         ensures { IfOk result (λ links. kept_links links.items
             ≡ links_under_url (resolver_models self.now) url.now (relation_text relation)) }
     {

@@ -10,7 +10,7 @@ use tm_parts::{Location, Reference, View};
 
 /// The models of a library with values in place of their placeholders, which all steps read.
 #[derive(Drop)]
-pub(crate) struct Sources<'a> {
+pub(crate) struct StepSources<'a> {
     pub(crate) alloc: Global,
     pub(crate) models: tm_parts::Sources<'a>,
 }
@@ -24,7 +24,7 @@ pub(crate) struct Part<'a> {
 
 /// The part that a step to the target leads to, where one can be made.
 pub(crate) fn entered_part<'a>(
-    sources: &'a Sources<'_>,
+    sources: &'a StepSources<'_>,
     target: &Reference,
     chain: &[Reference],
 ) -> Option<Part<'a>>

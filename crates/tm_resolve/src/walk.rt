@@ -25,14 +25,14 @@ use crate::chain::{
 use crate::fault::{ResolveFault, ResolveKind};
 use crate::links::{Extensions, REFERENCE, extensions_of, link_target, reference_target};
 use crate::merging::{merged, without_links};
-use crate::sources::{Part, Sources};
+use crate::sources::{Part, StepSources};
 use tm_parts::{ListView, Location, Node, ObjectView, Reference, View};
 use wot_json::{Items, Members, Text, Tree};
 
 /// The value of the target to which the part at a place of the model `url` leads.
 #[cycle(walk)]
 pub(crate) fn target_value(
-    sources: &Sources<'_>,
+    sources: &StepSources<'_>,
     url: &str,
     place: &[Text],
     target: &Reference,
@@ -59,7 +59,7 @@ pub(crate) fn target_value(
 
 /// The part that a step to the target enters, or why it can't be entered.
 fn target_part<'a>(
-    sources: &'a Sources<'_>,
+    sources: &'a StepSources<'_>,
     url: &str,
     place: &[Text],
     target: &Reference,
@@ -95,7 +95,7 @@ fn target_part<'a>(
 /// The value of the part of the last target of the chain, which is a whole model or a part of one.
 #[cycle(walk)]
 fn stepped_value(
-    sources: &Sources<'_>,
+    sources: &StepSources<'_>,
     target: &Reference,
     part: Part<'_>,
     chain: &mut Vec<Reference>,
@@ -116,7 +116,7 @@ fn stepped_value(
 /// The value of a whole model, with the model that it extends.
 #[cycle(walk)]
 fn model_value(
-    sources: &Sources<'_>,
+    sources: &StepSources<'_>,
     from: &Location,
     whole: View<'_>,
     chain: &mut Vec<Reference>,
@@ -149,7 +149,7 @@ fn model_value(
 /// The value of the model to which this link of a model leads, the only one to a model that it extends.
 #[cycle(walk)]
 fn base_value(
-    sources: &Sources<'_>,
+    sources: &StepSources<'_>,
     from: &Location,
     index: usize,
     link: View<'_>,
@@ -172,7 +172,7 @@ fn base_value(
 /// The value of a whole model without the model that it extends.
 #[cycle(walk)]
 fn root_value(
-    sources: &Sources<'_>,
+    sources: &StepSources<'_>,
     from: &Location,
     whole: View<'_>,
     chain: &mut Vec<Reference>,
@@ -189,7 +189,7 @@ fn root_value(
 /// The value of a part.
 #[cycle(walk)]
 fn part_value(
-    sources: &Sources<'_>,
+    sources: &StepSources<'_>,
     from: &Location,
     place: &mut Vec<Text>,
     part: View<'_>,
@@ -214,7 +214,7 @@ fn part_value(
 /// The values of the elements of a list.
 #[cycle(walk)]
 fn items_value(
-    sources: &Sources<'_>,
+    sources: &StepSources<'_>,
     from: &Location,
     place: &mut Vec<Text>,
     list: ListView<'_>,
@@ -244,7 +244,7 @@ fn items_value(
 /// The value of an object: with `tm:ref` its other members are a merge patch on what that leads to.
 #[cycle(walk)]
 fn object_value(
-    sources: &Sources<'_>,
+    sources: &StepSources<'_>,
     from: &Location,
     place: &mut Vec<Text>,
     members: ObjectView<'_>,
@@ -268,7 +268,7 @@ fn object_value(
 /// The value of what the value of a `tm:ref` leads to, which has to be an object.
 #[cycle(walk)]
 fn imported_value(
-    sources: &Sources<'_>,
+    sources: &StepSources<'_>,
     from: &Location,
     place: &[Text],
     reference: View<'_>,
@@ -302,7 +302,7 @@ fn is_object(tree: &Tree) -> bool
 /// The values of the members of an object, but for `tm:ref`.
 #[cycle(walk)]
 fn members_value(
-    sources: &Sources<'_>,
+    sources: &StepSources<'_>,
     from: &Location,
     place: &mut Vec<Text>,
     members: ObjectView<'_>,

@@ -21,7 +21,7 @@ use crate::links::{
     Extensions, REFERENCE, SUBMODEL, extensions_of, is_link, link_target, links_under,
     reference_target,
 };
-use crate::sources::{Part, Sources, entered_part};
+use crate::sources::{Part, StepSources, entered_part};
 use crate::spending::spend_node;
 use servient_base::NoMemory;
 use std::alloc::{AllocError, Global};
@@ -63,7 +63,7 @@ impl From<AllocError> for Stop {
 }
 
 /// Whether the expansion of the model of a Thing passes a limit, where `root` is the whole of that model.
-pub(crate) fn is_too_large(sources: &Sources<'_>, root: &Reference) -> Result<bool, NoMemory>
+pub(crate) fn is_too_large(sources: &StepSources<'_>, root: &Reference) -> Result<bool, NoMemory>
     ensures { IfOk result (λ large. large ≡ spec.is_too_large (visits_within most_entries sources.now.models
         Role.Thing 0 [] root.now)) }
 {
@@ -78,7 +78,7 @@ pub(crate) fn is_too_large(sources: &Sources<'_>, root: &Reference) -> Result<bo
 /// Visits what a step to a target leads to, at this depth.
 #[cycle(weigh)]
 fn weigh_step(
-    sources: &Sources<'_>,
+    sources: &StepSources<'_>,
     role: Role,
     depth: usize,
     target: &Reference,
@@ -104,7 +104,7 @@ fn weigh_step(
 /// Visits the part of the last target of the chain, and where it is a whole model what its links lead to.
 #[cycle(weigh)]
 fn weigh_target(
-    sources: &Sources<'_>,
+    sources: &StepSources<'_>,
     role: Role,
     depth: usize,
     target: &Reference,
@@ -131,7 +131,7 @@ fn weigh_target(
 /// submodels.
 #[cycle(weigh)]
 fn weigh_links(
-    sources: &Sources<'_>,
+    sources: &StepSources<'_>,
     role: Role,
     from: &Location,
     whole: View<'_>,
@@ -153,7 +153,7 @@ fn weigh_links(
 /// Visits the model that a model extends, where it extends one.
 #[cycle(weigh)]
 fn weigh_extension(
-    sources: &Sources<'_>,
+    sources: &StepSources<'_>,
     from: &Location,
     whole: View<'_>,
     chain: &mut Vec<Reference>,
@@ -173,7 +173,7 @@ fn weigh_extension(
 /// Visits the submodels among links.
 #[cycle(weigh)]
 fn weigh_submodels(
-    sources: &Sources<'_>,
+    sources: &StepSources<'_>,
     from: &Location,
     links: ListView<'_>,
     chain: &mut Vec<Reference>,
@@ -199,7 +199,7 @@ fn weigh_submodels(
 /// Visits the submodel that a link leads to, where it is such a link.
 #[cycle(weigh)]
 fn weigh_submodel(
-    sources: &Sources<'_>,
+    sources: &StepSources<'_>,
     from: &Location,
     link: View<'_>,
     chain: &mut Vec<Reference>,
@@ -220,7 +220,7 @@ fn weigh_submodel(
 /// Visits the model that a link leads to, where it leads to one.
 #[cycle(weigh)]
 fn weigh_link(
-    sources: &Sources<'_>,
+    sources: &StepSources<'_>,
     role: Role,
     from: &Location,
     link: View<'_>,
@@ -241,7 +241,7 @@ fn weigh_link(
 /// Visits a part at this depth, what it refers to, and what is in it.
 #[cycle(weigh)]
 fn weigh_part(
-    sources: &Sources<'_>,
+    sources: &StepSources<'_>,
     from: &Location,
     depth: usize,
     part: View<'_>,
@@ -266,7 +266,7 @@ fn weigh_part(
 /// isn't made before it is known not to be too long.
 #[cycle(weigh)]
 fn weigh_object(
-    sources: &Sources<'_>,
+    sources: &StepSources<'_>,
     from: &Location,
     depth: usize,
     members: ObjectView<'_>,
@@ -291,7 +291,7 @@ fn weigh_object(
 /// Visits what the value of a `tm:ref` refers to, at the depth of the object that has it.
 #[cycle(weigh)]
 fn weigh_reference(
-    sources: &Sources<'_>,
+    sources: &StepSources<'_>,
     from: &Location,
     depth: usize,
     reference: View<'_>,
@@ -312,7 +312,7 @@ fn weigh_reference(
 /// Visits the elements of a list.
 #[cycle(weigh)]
 fn weigh_elements(
-    sources: &Sources<'_>,
+    sources: &StepSources<'_>,
     from: &Location,
     depth: usize,
     list: ListView<'_>,
@@ -339,7 +339,7 @@ fn weigh_elements(
 /// Visits the members of an object.
 #[cycle(weigh)]
 fn weigh_members(
-    sources: &Sources<'_>,
+    sources: &StepSources<'_>,
     from: &Location,
     depth: usize,
     members: ObjectView<'_>,

@@ -3,17 +3,17 @@
 //! full house of 1,024. The answer of each to a step is a line; the lines of both have to be the same. The program
 //! prints the counts of answers.
 //!
-//! The counts that it must print come from `tools/watcher-counts`, a third body in another language over the same
+//! The counts that it must print come from `tools/observer-counts`, a third body in another language over the same
 //! steps.
 #![tactic(auto)]
 
 mod counts;
 mod crowd;
+mod observer;
 mod plain;
 mod played;
 mod steps;
 mod told;
-mod watcher;
 
 use played::Bodies;
 use std::alloc::{AllocError, Global};

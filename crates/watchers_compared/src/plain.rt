@@ -4,23 +4,23 @@
 
 ghost use Rattle.std.specs.Prelude.{◌≤◌, length};
 
-use crate::watcher::PlainWatcher;
+use crate::observer::PlainObserver;
 use coap_msg::{Endpoint, LONGEST_TOKEN};
 use coap_observe::{Notice, Registered};
 use std::alloc::{AllocError, Global};
 
 /// The observers of a server, in order of registration.
 #[derive(Drop)]
-pub struct PlainWatchers {
+pub struct PlainObservers {
     capacity: u32,
-    list: Vec<PlainWatcher>,
+    list: Vec<PlainObserver>,
 }
 
-impl PlainWatchers {
+impl PlainObservers {
     /// A list for at most `capacity` observers.
-    pub fn new(alloc: Global, capacity: u32) -> Result<PlainWatchers, AllocError> {
+    pub fn new(alloc: Global, capacity: u32) -> Result<PlainObservers, AllocError> {
         let list = Vec::with_capacity(alloc, capacity as usize)?;
-        Ok(PlainWatchers { capacity, list })
+        Ok(PlainObservers { capacity, list })
     }
 
     /// Registers the observer of this endpoint and token for a target (RFC 7641, section 4.1).
@@ -32,33 +32,36 @@ impl PlainWatchers {
     ) -> Result<Registered, AllocError>
         requires { length token.now ≤ LONGEST_TOKEN }
     {
-        if let Some(watcher) = self
+        if let Some(observer) = self
             .list
             .iter_mut()
-            .find(|watcher| watcher.is_pair(from, token))
+            .find(|observer| observer.is_pair(from, token))
         {
-            watcher.replace(target);
-            return Ok(Registered::Replaced(watcher.sequence));
+            observer.replace(target);
+            return Ok(Registered::Replaced(observer.sequence));
         }
         if self.list.len() >= self.capacity as usize {
             return Ok(Registered::Full);
         }
-        self.list.push(PlainWatcher::new(from, token, target))?;
+        self.list.push(PlainObserver::new(from, token, target))?;
         Ok(Registered::New(0))
     }
 
     /// Ends the observation of this endpoint and token, and says whether there was one.
     pub fn cancel(&mut self, from: Endpoint, token: &[u8]) -> bool {
-        let found = self.list.iter().any(|watcher| watcher.is_pair(from, token));
-        self.list.retain(|watcher| !watcher.is_pair(from, token));
+        let found = self
+            .list
+            .iter()
+            .any(|observer| observer.is_pair(from, token));
+        self.list.retain(|observer| !observer.is_pair(from, token));
         found
     }
 
     /// A target has a new value.
     pub fn emit(&mut self, target: u32) {
-        for watcher in self.list.iter_mut() {
-            if watcher.target == target {
-                watcher.is_marked = true;
+        for observer in self.list.iter_mut() {
+            if observer.target == target {
+                observer.is_marked = true;
             }
         }
     }
@@ -66,9 +69,9 @@ impl PlainWatchers {
     /// An endpoint acknowledged the message with this ID. Says whether a notification had it.
     pub fn acked(&mut self, from: Endpoint, id: u16) -> bool {
         let mut found = false;
-        for watcher in self.list.iter_mut() {
-            if watcher.is_sent_as(from, id) {
-                watcher.sent = None;
+        for observer in self.list.iter_mut() {
+            if observer.is_sent_as(from, id) {
+                observer.sent = None;
                 found = true;
             }
         }
@@ -77,8 +80,11 @@ impl PlainWatchers {
 
     /// An endpoint rejected the message with this ID. Says whether a notification had it.
     pub fn reset(&mut self, from: Endpoint, id: u16) -> bool {
-        let found = self.list.iter().any(|watcher| watcher.is_sent_as(from, id));
-        self.list.retain(|watcher| !watcher.is_sent_as(from, id));
+        let found = self
+            .list
+            .iter()
+            .any(|observer| observer.is_sent_as(from, id));
+        self.list.retain(|observer| !observer.is_sent_as(from, id));
         found
     }
 
@@ -95,7 +101,7 @@ impl PlainWatchers {
     fn give_up(&mut self, now: u64) {
         for _turn in 0..self.list.len() {
             match given_up(self.list.as_slice(), now) {
-                Some(from) => self.list.retain(|watcher| !watcher.is_from(from)),
+                Some(from) => self.list.retain(|observer| !observer.is_from(from)),
                 None => return,
             }
         }
@@ -103,16 +109,16 @@ impl PlainWatchers {
 }
 
 /// The place of the first observer whose notification is due.
-fn first_due(list: &[PlainWatcher], now: u64) -> Option<usize> {
-    list.iter().position(|watcher| watcher.is_due(now))
+fn first_due(list: &[PlainObserver], now: u64) -> Option<usize> {
+    list.iter().position(|observer| observer.is_due(now))
 }
 
 /// The endpoint of that observer, if it is given up.
-fn given_up(list: &[PlainWatcher], now: u64) -> Option<Endpoint> {
-    match list.iter().find(|watcher| watcher.is_due(now)) {
-        Some(watcher) => {
-            if watcher.is_exhausted() {
-                Some(watcher.from)
+fn given_up(list: &[PlainObserver], now: u64) -> Option<Endpoint> {
+    match list.iter().find(|observer| observer.is_due(now)) {
+        Some(observer) => {
+            if observer.is_exhausted() {
+                Some(observer.from)
             } else {
                 None
             }
@@ -122,25 +128,25 @@ fn given_up(list: &[PlainWatcher], now: u64) -> Option<Endpoint> {
 }
 
 /// Whether a notification to an endpoint isn't acknowledged.
-fn is_busy(list: &[PlainWatcher], from: Endpoint) -> bool {
-    list.iter().any(|watcher| watcher.is_busy(from))
+fn is_busy(list: &[PlainObserver], from: Endpoint) -> bool {
+    list.iter().any(|observer| observer.is_busy(from))
 }
 
 /// Sends the notification of the observer at a place again.
-fn send_again(list: &mut [PlainWatcher], index: usize, now: u64, id: u16) -> Option<Notice> {
-    let watcher = list.get_mut(index)?;
-    let sent = watcher.sent?;
-    Some(watcher.send_again(sent, now, id))
+fn send_again(list: &mut [PlainObserver], index: usize, now: u64, id: u16) -> Option<Notice> {
+    let observer = list.get_mut(index)?;
+    let sent = observer.sent?;
+    Some(observer.send_again(sent, now, id))
 }
 
 /// Sends to the first observer that has a value to be sent and whose endpoint acknowledged all.
-fn send_first(list: &mut [PlainWatcher], now: u64, id: u16) -> Option<Notice> {
+fn send_first(list: &mut [PlainObserver], now: u64, id: u16) -> Option<Notice> {
     let index = first_free(list)?;
-    let watcher = list.get_mut(index)?;
-    Some(watcher.send_first(now, id))
+    let observer = list.get_mut(index)?;
+    Some(observer.send_first(now, id))
 }
 
 /// The place of that observer.
-fn first_free(list: &[PlainWatcher]) -> Option<usize> {
-    list.iter().position(|watcher| watcher.is_marked && !is_busy(list, watcher.from))
+fn first_free(list: &[PlainObserver]) -> Option<usize> {
+    list.iter().position(|observer| observer.is_marked && !is_busy(list, observer.from))
 }

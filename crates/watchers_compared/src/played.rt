@@ -2,7 +2,7 @@
 
 ghost use Rattle.std.specs.Prelude.{◌≤◌};
 
-use crate::plain::PlainWatchers;
+use crate::plain::PlainObservers;
 use crate::steps::Step;
 use crate::told;
 use coap_observe::Watchers;
@@ -13,7 +13,7 @@ use std::alloc::{AllocError, Global};
 pub struct Bodies {
     linked: Watchers,
     linked_lines: String,
-    plain: PlainWatchers,
+    plain: PlainObservers,
     plain_lines: String,
 }
 
@@ -24,7 +24,7 @@ impl Bodies {
         requires most { capacity ≤ 1024 }
     {
         let linked = Watchers::new(alloc, capacity)?;
-        let plain = PlainWatchers::new(alloc, capacity)?;
+        let plain = PlainObservers::new(alloc, capacity)?;
         Ok(Bodies {
             linked,
             linked_lines: String::new(alloc),

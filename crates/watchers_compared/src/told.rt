@@ -1,6 +1,6 @@
 //! The answers of both bodies, as lines of a text.
 
-use crate::plain::PlainWatchers;
+use crate::plain::PlainObservers;
 use crate::steps::Step;
 use coap_observe::{Notice, Registered, Watchers};
 use std::alloc::AllocError;
@@ -51,50 +51,50 @@ fn put_notice(text: &mut String, notice: Option<Notice>) -> Result<(), AllocErro
 /// Writes the answer of the linked slots to a step.
 pub fn put_linked(
     text: &mut String,
-    watchers: &mut Watchers,
+    observers: &mut Watchers,
     step: Step,
 ) -> Result<(), AllocError> {
     match step {
         Step::Register(from, token, target) => {
-            put_registered(text, watchers.register(from, &[token], target))
+            put_registered(text, observers.register(from, &[token], target))
         }
         Step::Cancel(from, token) => put_found(
             text,
             "cancelled\n",
-            watchers.cancel(from, &[token]),
+            observers.cancel(from, &[token]),
         ),
         Step::Emit(target) => {
-            watchers.emit(target);
+            observers.emit(target);
             text.push_str("emitted\n")
         }
-        Step::Acknowledge(from, id) => put_found(text, "acknowledged\n", watchers.acked(from, id)),
-        Step::Reset(from, id) => put_found(text, "reset\n", watchers.reset(from, id)),
-        Step::Send(now, id) => put_notice(text, watchers.next_send(now, id)),
+        Step::Acknowledge(from, id) => put_found(text, "acknowledged\n", observers.acked(from, id)),
+        Step::Reset(from, id) => put_found(text, "reset\n", observers.reset(from, id)),
+        Step::Send(now, id) => put_notice(text, observers.next_send(now, id)),
     }
 }
 
 /// Writes the answer of the plain list to a step.
 pub fn put_plain(
     text: &mut String,
-    watchers: &mut PlainWatchers,
+    observers: &mut PlainObservers,
     step: Step,
 ) -> Result<(), AllocError> {
     match step {
         Step::Register(from, token, target) => {
-            let registered = watchers.register(from, &[token], target)?;
+            let registered = observers.register(from, &[token], target)?;
             put_registered(text, registered)
         }
         Step::Cancel(from, token) => put_found(
             text,
             "cancelled\n",
-            watchers.cancel(from, &[token]),
+            observers.cancel(from, &[token]),
         ),
         Step::Emit(target) => {
-            watchers.emit(target);
+            observers.emit(target);
             text.push_str("emitted\n")
         }
-        Step::Acknowledge(from, id) => put_found(text, "acknowledged\n", watchers.acked(from, id)),
-        Step::Reset(from, id) => put_found(text, "reset\n", watchers.reset(from, id)),
-        Step::Send(now, id) => put_notice(text, watchers.next_send(now, id)),
+        Step::Acknowledge(from, id) => put_found(text, "acknowledged\n", observers.acked(from, id)),
+        Step::Reset(from, id) => put_found(text, "reset\n", observers.reset(from, id)),
+        Step::Send(now, id) => put_notice(text, observers.next_send(now, id)),
     }
 }

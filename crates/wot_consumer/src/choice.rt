@@ -13,7 +13,7 @@ ghost use Rattle.wot_consumer.specs.Choice as spec;
 
 use crate::operations::{is_observing, kind_of, verb_of};
 use crate::places::{are_sendable, default_port, scheme_named, segments_of};
-use crate::wanted::Wanted;
+use crate::wanted::SoughtForm;
 use crate::{ChooseFault, Chosen};
 use servient_base::{NoMemory, join};
 use std::alloc::Global;
@@ -46,7 +46,7 @@ pub fn choose(
     ensures affordance { IfOk result (λ c. HasAffordance (json_of tree.now) op name.now) }
     ensures fault { IfErr result (λ f. spec.IsNoChoice (json_of tree.now) (spec.wanted op scheme) name.now f) }
 {
-    let wanted = Wanted { op, scheme };
+    let wanted = SoughtForm { op, scheme };
     match forms_of(alloc, tree, kind_of(op), name)? {
         None => Err(ChooseFault::NoAffordance),
         Some(forms) => first(alloc, wanted, base_of(tree), forms.as_slice()),
@@ -66,7 +66,7 @@ fn base_of(tree: &Tree) -> Option<&str>
 /// The choice by the first form that qualifies.
 fn first(
     alloc: Global,
-    wanted: Wanted,
+    wanted: SoughtForm,
     base: Option<&str>,
     forms: &[Form],
 ) -> Result<Chosen, ChooseFault>
@@ -84,7 +84,7 @@ fn first(
 /// The choice by a form, where it qualifies.
 fn chosen_by(
     alloc: Global,
-    wanted: Wanted,
+    wanted: SoughtForm,
     base: Option<&str>,
     form: &Form,
 ) -> Result<Option<Chosen>, NoMemory>
@@ -101,7 +101,7 @@ fn chosen_by(
 }
 
 /// The form fits by its own members.
-fn fits(wanted: Wanted, form: &Form) -> bool
+fn fits(wanted: SoughtForm, form: &Form) -> bool
     ensures { IsTrue result ↔ spec.Fits wanted form.now }
 {
     has_operation(form.ops.as_slice(), wanted.op)
@@ -139,7 +139,7 @@ fn verb_by(op: Op, form: &Form) -> Verb
 /// The choice at a URL, where it leads to something that may be used.
 fn chosen_at(
     alloc: Global,
-    wanted: Wanted,
+    wanted: SoughtForm,
     verb: Verb,
     url: &Url,
 ) -> Result<Option<Chosen>, NoMemory>
@@ -169,7 +169,7 @@ fn chosen_at(
 }
 
 /// The scheme of this name, where it may be used.
-fn usable_scheme(wanted: Wanted, name: &str) -> Option<Scheme>
+fn usable_scheme(wanted: SoughtForm, name: &str) -> Option<Scheme>
     ensures { MatchOption result ((s : Scheme) → scheme_of name.now ≡ Some s → ¬ (spec.IsWanted wanted s))
         (λ s. (scheme_of name.now ≡ Some s) × spec.IsWanted wanted s) }
 {
@@ -186,7 +186,7 @@ fn usable_scheme(wanted: Wanted, name: &str) -> Option<Scheme>
 }
 
 /// The scheme may be used.
-fn is_wanted(wanted: Wanted, scheme: Scheme) -> bool
+fn is_wanted(wanted: SoughtForm, scheme: Scheme) -> bool
     ensures { IsTrue result ↔ spec.IsWanted wanted scheme }
 {
     match wanted.scheme {

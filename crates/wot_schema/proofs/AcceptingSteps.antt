@@ -10,8 +10,8 @@ use Rattle.wot_schema.specs.Values.{EachElement, IfArray, IfObject}
 use Rattle.wot_schema.specs.Acceptance.{Accepts, items, properties, Within, Asks, ExactlyOne, InOrder, AcceptMembers}
 use Rattle.wot_schema.specs.Rules.{IsAllowed}
 use Rattle.wot_schema.specs.Nodes.{node_members, schema_of, schemas_of, list_of, items_of, properties_of}
-use Rattle.wot_schema.specs.declared.node.Node.{Node}
-use Rattle.wot_schema.specs.declared.node.Node.TheInside.{Inside}
+use Rattle.wot_schema.specs.declared.node.SchemaNode.{SchemaNode}
+use Rattle.wot_schema.specs.declared.node.SchemaNode.TheInside.{Inside}
 use Rattle.wot_schema.specs.declared.node.ItemRule.{ItemRule}
 use Rattle.wot_schema.specs.declared.node.ItemRule.TheVariants as item
 use Rattle.wot_schema.proofs.NodeMeaning.{node_accepts, one_of_node, items_node, properties_node}
@@ -39,7 +39,7 @@ without_alternatives a n v b c is rules allowed free =
     ))
 
 -- a value that not exactly one alternative accepts is refused
-pub refused_by_alternatives : (a : Inside) (n : List Named) (v : Json) (nodes : Vec Node Global) (d : Bool) → node_members a ≡ n → a.alternatives ≡ Some nodes →
+pub refused_by_alternatives : (a : Inside) (n : List Named) (v : Json) (nodes : Vec SchemaNode Global) (d : Bool) → node_members a ≡ n → a.alternatives ≡ Some nodes →
     (IsTrue d ↔ ExactlyOne (elements_of (map schema_of nodes.items)) v) → d ≡ false → IsTrue d ↔ Accepts (schema_of n) v
 refused_by_alternatives a n v nodes d is some alternatives refused =
     subst (λ (m : List Named). IsTrue d ↔ Accepts (schema_of m) v) is (
@@ -50,7 +50,7 @@ refused_by_alternatives a n v nodes d is some alternatives refused =
     )
 
 -- where exactly one alternative accepts it, rules and contents decide
-pub with_alternatives : (a : Inside) (n : List Named) (v : Json) (nodes : Vec Node Global) (b d c : Bool) → node_members a ≡ n → (IsTrue b ↔ IsAllowed a.rules v) → b ≡ true → a.alternatives ≡ Some nodes →
+pub with_alternatives : (a : Inside) (n : List Named) (v : Json) (nodes : Vec SchemaNode Global) (b d c : Bool) → node_members a ≡ n → (IsTrue b ↔ IsAllowed a.rules v) → b ≡ true → a.alternatives ≡ Some nodes →
     (IsTrue d ↔ ExactlyOne (elements_of (map schema_of nodes.items)) v) → d ≡ true →
     (IsTrue c ↔ (Within items (members_of n) v × Within properties (members_of n) v)) → IsTrue c ↔ Accepts (schema_of n) v
 with_alternatives a n v nodes b d c is rules allowed some alternatives accepted_by_one =

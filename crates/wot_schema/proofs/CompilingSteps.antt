@@ -19,8 +19,8 @@ use Rattle.wot_schema.specs.Faults.{schema_faults, table_faults, faults_in_membe
 use Rattle.wot_schema.specs.Alike.{AcceptAlike, AllAlike, NamedAlike}
 use Rattle.wot_schema.specs.Rules.{AreRulesOf}
 use Rattle.wot_schema.specs.Nodes.{node_members, schema_of, schemas_of, list_of, items_of, properties_of}
-use Rattle.wot_schema.specs.declared.node.Node.{Node}
-use Rattle.wot_schema.specs.declared.node.Node.TheInside.{Inside}
+use Rattle.wot_schema.specs.declared.node.SchemaNode.{SchemaNode}
+use Rattle.wot_schema.specs.declared.node.SchemaNode.TheInside.{Inside}
 use Rattle.wot_schema.proofs.Rows.{rows_hold, rows_asked}
 use Rattle.wot_schema.proofs.NodeMeaning.{within_is, node_accepts, one_of_node, items_node, properties_node, holders}
 use Rattle.wot_schema.proofs.FirstFaults.{parts_none, none_through, table_met}
@@ -231,28 +231,28 @@ compiled_alike a ms rules alternatives items_asked properties_asked v = (
       ),
 )
   where
-    some_asked : (o : Option (Vec Node Global)) (v : Json) → IfSome (option_map (λ (nodes : Vec Node Global). list_of nodes.items) o) (λ s. Asks one_of s v) → IfSome o (λ nodes. Asks one_of (list_of nodes.items) v)
+    some_asked : (o : Option (Vec SchemaNode Global)) (v : Json) → IfSome (option_map (λ (nodes : Vec SchemaNode Global). list_of nodes.items) o) (λ s. Asks one_of s v) → IfSome o (λ nodes. Asks one_of (list_of nodes.items) v)
     some_asked None v h = tt
     some_asked (Some nodes) v h = h
 
-    asked_some : (o : Option (Vec Node Global)) (v : Json) → IfSome o (λ nodes. Asks one_of (list_of nodes.items) v) → IfSome (option_map (λ (nodes : Vec Node Global). list_of nodes.items) o) (λ s. Asks one_of s v)
+    asked_some : (o : Option (Vec SchemaNode Global)) (v : Json) → IfSome o (λ nodes. Asks one_of (list_of nodes.items) v) → IfSome (option_map (λ (nodes : Vec SchemaNode Global). list_of nodes.items) o) (λ s. Asks one_of s v)
     asked_some None v h = tt
     asked_some (Some nodes) v h = h
 
 -- compiled schemas of named members ask what those ask
-pub named_ok : (r : Result (Vec (List ℕ × Node) Global) AllocError) (ts : List (List ℕ × Json)) → IfOk r (λ named. NamedAlike (schemas_of named.items) ts) →
+pub named_ok : (r : Result (Vec (List ℕ × SchemaNode) Global) AllocError) (ts : List (List ℕ × Json)) → IfOk r (λ named. NamedAlike (schemas_of named.items) ts) →
     IfOk r (λ named. (v : Json) → (Asks properties (properties_of named.items) v ↔ Asks properties (object (members_of ts)) v))
 named_ok (Ok named) ts alike = λ v. properties_alike (schemas_of named.items) ts alike v
 named_ok (Err e) ts alike = tt
 
 -- one more schema was compiled
-pub list_more : (ns ms : List Node) (n : Node) (ts : List Tree) (i : ℕ) (t : Tree) → i < length ts → t ≡ get_or ts i t → AllAlike (map schema_of ns) (json_items (take i ts)) →
+pub list_more : (ns ms : List SchemaNode) (n : SchemaNode) (ts : List Tree) (i : ℕ) (t : Tree) → i < length ts → t ≡ get_or ts i t → AllAlike (map schema_of ns) (json_items (take i ts)) →
     AcceptAlike (schema_of n) (json_of t) → ms ≡ ns ++ n ∷ [] → AllAlike (map schema_of ms) (json_items (take (i + 1) ts))
 list_more ns ms n ts i t within is alike one more =
     let front : take (i + 1) ts ≡ take i ts ++ t ∷ [] = take_more ts i t within ∙ ap (λ u. take i ts ++ u ∷ []) (sym is) in
     rw (more, front, map-append, map-append) (alike_more (map schema_of ns) (json_items (take i ts)) (schema_of n) (json_of t) alike one)
 
-pub named_list_more : (ns ms : List (List ℕ × Node)) (n : List ℕ × Node) (ts : List (List ℕ × Tree)) (i : ℕ) (t : List ℕ × Tree) → i < length ts → t ≡ get_or ts i t → NamedAlike (schemas_of ns) (json_members (take i ts)) →
+pub named_list_more : (ns ms : List (List ℕ × SchemaNode)) (n : List ℕ × SchemaNode) (ts : List (List ℕ × Tree)) (i : ℕ) (t : List ℕ × Tree) → i < length ts → t ≡ get_or ts i t → NamedAlike (schemas_of ns) (json_members (take i ts)) →
     n.0 ≡ t.0 → AcceptAlike (schema_of n.1) (json_of t.1) → ms ≡ ns ++ n ∷ [] → NamedAlike (schemas_of ms) (json_members (take (i + 1) ts))
 named_list_more ns ms n ts i t within is alike name one more =
     let front : take (i + 1) ts ≡ take i ts ++ t ∷ [] = take_more ts i t within ∙ ap (λ u. take i ts ++ u ∷ []) (sym is) in

@@ -10,8 +10,8 @@ use Rattle.wot_json.specs.Lookup.{value_under}
 use Rattle.wot_schema.specs.Acceptance.{Accepts, Holder, one_of, items, properties, name_of, Within, Asks}
 use Rattle.wot_schema.specs.Rules.{IsAllowed, AreRulesOf}
 use Rattle.wot_schema.specs.Nodes.{present_members, node_rows, node_members, schema_of, list_of, items_of, properties_of}
-use Rattle.wot_schema.specs.declared.node.Node.{Node}
-use Rattle.wot_schema.specs.declared.node.Node.TheInside.{Inside}
+use Rattle.wot_schema.specs.declared.node.SchemaNode.{SchemaNode}
+use Rattle.wot_schema.specs.declared.node.SchemaNode.TheInside.{Inside}
 use Rattle.wot_schema.proofs.Rows.{rows_hold, rows_asked}
 
 abbrev Row : Type 0
@@ -94,7 +94,7 @@ pub within_is : (holder : Holder) (ms : Members) (v : Json) (o : Option Json) �
 within_is holder ms v o is = subst (λ (p : Option Json). Within holder ms v ↔ IfSome p (λ s. Asks holder s v)) is (within_found holder ms v)
 
 -- the demands of the schemas below a node
-pub one_of_node : (a : Inside) (v : Json) → Within one_of (members_of (node_members a)) v ↔ IfSome (option_map (λ (nodes : Vec Node Global). list_of nodes.items) a.alternatives) (λ s. Asks one_of s v)
+pub one_of_node : (a : Inside) (v : Json) → Within one_of (members_of (node_members a)) v ↔ IfSome (option_map (λ (nodes : Vec SchemaNode Global). list_of nodes.items) a.alternatives) (λ s. Asks one_of s v)
 one_of_node a v = within_is one_of (members_of (node_members a)) v _ (found_present (codes "oneOf") (node_rows a) refl)
 
 pub items_node : (a : Inside) (v : Json) → Within items (members_of (node_members a)) v ↔ Asks items (items_of a.items) v

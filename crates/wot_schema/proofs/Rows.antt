@@ -11,7 +11,7 @@ use Rattle.wot_json.specs.Lookup.{value_under}
 use Rattle.wot_schema.specs.Values.{IfInteger, IfString, IfArray, IfObject, SomeElement, element_count, code_points}
 use Rattle.wot_schema.specs.Acceptance.{type_of, AreNamesIn, Rows}
 use Rattle.wot_schema.specs.Kinds.{kind_name}
-use Rattle.wot_schema.specs.declared.kind.Kind.{Kind}
+use Rattle.wot_schema.specs.declared.kind.ValueType.{ValueType}
 use Rattle.wot_schema.specs.declared.counts.CountRange.{CountRange}
 use Rattle.wot_schema.specs.declared.numbers.NumberRules.{NumberRules}
 use Rattle.wot_schema.specs.declared.rules.Rules.{Rules}
@@ -145,7 +145,7 @@ pub rows_hold : (ms : Members) (r : Rules) (v : Json) → AreRulesOf ms r → Is
 rows_hold ms r v is allowed =
     let p : Parts r v = parts r v allowed.contents in
     record {
-      type = (row (λ (k : Kind). string (kind_name k)) (value_under (codes "type") ms) r.kind (λ s. s ≡ string (type_of v)) is.type).0
+      type = (row (λ (k : ValueType). string (kind_name k)) (value_under (codes "type") ms) r.kind (λ s. s ≡ string (type_of v)) is.type).0
           (each_value r.kind (λ k. kind_name k ≡ type_of v) (λ k. string (kind_name k) ≡ string (type_of v)) (λ k e. ap (λ (t : List ℕ). string t) e) allowed.type);
       constant = (row json_of (value_under (codes "const") ms) r.constant (λ s. v ≡ s) is.constant).0 allowed.constant;
       choice = (row (λ (ts : Vec Tree Global). array (elements_of (json_items ts.items))) (value_under (codes "enum") ms) r.choices (λ s. IfArray s (SomeElement (λ s. v ≡ s))) is.choice).0
@@ -178,7 +178,7 @@ pub rows_asked : (ms : Members) (r : Rules) (v : Json) → AreRulesOf ms r → R
 rows_asked ms r v is rows =
     record {
       type = each_value r.kind (λ k. string (kind_name k) ≡ string (type_of v)) (λ k. kind_name k ≡ type_of v) (λ k e. text_equal (kind_name k) (type_of v) e)
-          ((row (λ (k : Kind). string (kind_name k)) (value_under (codes "type") ms) r.kind (λ s. s ≡ string (type_of v)) is.type).1 rows.type);
+          ((row (λ (k : ValueType). string (kind_name k)) (value_under (codes "type") ms) r.kind (λ s. s ≡ string (type_of v)) is.type).1 rows.type);
       constant = (row json_of (value_under (codes "const") ms) r.constant (λ s. v ≡ s) is.constant).1 rows.constant;
       choice = each_value r.choices (λ ts. SomeElement (λ s. v ≡ s) (elements_of (json_items ts.items))) (λ ts. IsAmong v ts.items) (λ ts h. (among v ts.items).1 h)
           ((row (λ (ts : Vec Tree Global). array (elements_of (json_items ts.items))) (value_under (codes "enum") ms) r.choices (λ s. IfArray s (SomeElement (λ s. v ≡ s))) is.choice).1 rows.choice);

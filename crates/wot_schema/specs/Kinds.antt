@@ -1,9 +1,9 @@
 -- The names of the types of values.
 use Rattle.std.specs.Prelude.{ℕ, List, codes}
-use Rattle.wot_schema.specs.declared.kind.Kind.{Kind}
-use Rattle.wot_schema.specs.declared.kind.Kind.TheVariants as kind
+use Rattle.wot_schema.specs.declared.kind.ValueType.{ValueType}
+use Rattle.wot_schema.specs.declared.kind.ValueType.TheVariants as kind
 
-abbrev pub kind_name : Kind → List ℕ
+abbrev pub kind_name : ValueType → List ℕ
 kind_name kind.Boolean = codes "boolean"
 kind_name kind.Integer = codes "integer"
 kind_name kind.String = codes "string"

@@ -5,7 +5,7 @@ use Rattle.wot_json.specs.Tree.{Json, string, integer, array, object, elements_o
 use Rattle.wot_json.specs.Meaning.{json_of, json_items}
 use Rattle.wot_schema.specs.Kinds.{kind_name}
 use Rattle.wot_schema.specs.declared.rules.Rules.{Rules}
-use Rattle.wot_schema.specs.declared.node.Node.TheInside.{Inside}
+use Rattle.wot_schema.specs.declared.node.SchemaNode.TheInside.{Inside}
 use Rattle.wot_schema.specs.declared.node.ItemRule.{ItemRule}
 use Rattle.wot_schema.specs.declared.node.ItemRule.TheVariants as item
 

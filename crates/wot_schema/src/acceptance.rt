@@ -7,12 +7,12 @@ ghost use Rattle.wot_schema.specs.Acceptance.{Accepts, ExactlyOne, InOrder, Acce
 ghost use Rattle.wot_schema.specs.Values.{EachElement};
 ghost use Rattle.wot_schema.specs.Nodes.{schema_of, schemas_of};
 
-use crate::node::{ItemRule, Node};
+use crate::node::{ItemRule, SchemaNode};
 use wot_json::{Members, Text, Tree};
 
 /// The schema accepts the value.
 #[cycle(acceptance)]
-pub(crate) fn accepts(node: &Node, value: &Tree) -> bool
+pub(crate) fn accepts(node: &SchemaNode, value: &Tree) -> bool
     ensures { IsTrue result ↔ Accepts (schema_of node.now) (json_of value.now) }
 {
     if !node.rules.accept(value) {
@@ -25,7 +25,7 @@ pub(crate) fn accepts(node: &Node, value: &Tree) -> bool
 }
 
 #[cycle(acceptance)]
-fn exactly_one_accepts(nodes: &[Node], value: &Tree) -> bool
+fn exactly_one_accepts(nodes: &[SchemaNode], value: &Tree) -> bool
     ensures { IsTrue result ↔ ExactlyOne (elements_of (map schema_of nodes.now)) (json_of value.now) }
 {
     let mut accepted = false;
@@ -43,7 +43,7 @@ fn exactly_one_accepts(nodes: &[Node], value: &Tree) -> bool
 /// The schemas below `items` accept the elements of a list, and those below `properties` the members of an
 /// object.
 #[cycle(acceptance)]
-fn contents_are_accepted(node: &Node, value: &Tree) -> bool
+fn contents_are_accepted(node: &SchemaNode, value: &Tree) -> bool
     ensures { IsTrue result ↔ (Within items_row (members_of node.now) (json_of value.now)
         × Within properties_row (members_of node.now) (json_of value.now)) }
 {
@@ -58,7 +58,7 @@ fn contents_are_accepted(node: &Node, value: &Tree) -> bool
 }
 
 #[cycle(acceptance)]
-fn accepts_each(node: &Node, items: &[Tree]) -> bool
+fn accepts_each(node: &SchemaNode, items: &[Tree]) -> bool
     ensures { IsTrue result ↔ EachElement (Accepts (schema_of node.now)) (elements_of (json_items items.now)) }
 {
     for item in items {
@@ -71,7 +71,7 @@ fn accepts_each(node: &Node, items: &[Tree]) -> bool
 
 /// The i-th schema accepts the i-th element, as far as there are both.
 #[cycle(acceptance)]
-fn accept_in_order(nodes: &[Node], items: &[Tree]) -> bool
+fn accept_in_order(nodes: &[SchemaNode], items: &[Tree]) -> bool
     ensures { IsTrue result ↔
         InOrder (elements_of (map schema_of nodes.now)) (elements_of (json_items items.now)) }
 {
@@ -85,7 +85,7 @@ fn accept_in_order(nodes: &[Node], items: &[Tree]) -> bool
 
 /// Each member that a schema is for is accepted by it.
 #[cycle(acceptance)]
-fn members_are_accepted(properties: &[(Text, Node)], members: &Members) -> bool
+fn members_are_accepted(properties: &[(Text, SchemaNode)], members: &Members) -> bool
     ensures { IsTrue result ↔
         AcceptMembers (members_of (schemas_of properties.now)) (members_of members.now) }
 {

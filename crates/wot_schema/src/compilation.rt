@@ -8,14 +8,14 @@ ghost use Rattle.wot_schema.specs.Faults.{schema_faults, faults_within, faults_b
 ghost use Rattle.wot_schema.specs.Alike.{AcceptAlike, AllAlike, NamedAlike};
 ghost use Rattle.wot_schema.specs.Nodes.{schema_of, schemas_of, list_of, items_of, properties_of};
 
-use crate::node::{ItemRule, Node};
+use crate::node::{ItemRule, SchemaNode};
 use crate::rules::Rules;
 use std::alloc::Global;
 use wot_json::{Members, NoMemory, Text, Tree};
 
 /// The compiled form of a schema.
 #[cycle(compilation)]
-pub(crate) fn compile(alloc: Global, tree: &Tree) -> Result<Node, NoMemory>
+pub(crate) fn compile(alloc: Global, tree: &Tree) -> Result<SchemaNode, NoMemory>
     requires { schema_faults (json_of tree.now) ≡ [] }
     ensures { IfOk result (λ n. AcceptAlike (schema_of n) (json_of tree.now)) }
 {
@@ -26,7 +26,7 @@ pub(crate) fn compile(alloc: Global, tree: &Tree) -> Result<Node, NoMemory>
 }
 
 #[cycle(compilation)]
-fn compile_members(alloc: Global, members: &Members) -> Result<Node, NoMemory>
+fn compile_members(alloc: Global, members: &Members) -> Result<SchemaNode, NoMemory>
     requires { schema_faults (object (members_of members.now)) ≡ [] }
     ensures { IfOk result (λ n. AcceptAlike (schema_of n) (object (members_of members.now))) }
 {
@@ -34,7 +34,7 @@ fn compile_members(alloc: Global, members: &Members) -> Result<Node, NoMemory>
     let alternatives = compile_alternatives(alloc, members)?;
     let items = compile_items(alloc, members)?;
     let properties = compile_properties(alloc, members)?;
-    Ok(Node {
+    Ok(SchemaNode {
         rules,
         alternatives,
         items,
@@ -44,7 +44,10 @@ fn compile_members(alloc: Global, members: &Members) -> Result<Node, NoMemory>
 
 /// Compiles the value of `oneOf`.
 #[cycle(compilation)]
-fn compile_alternatives(alloc: Global, members: &Members) -> Result<Option<Vec<Node>>, NoMemory>
+fn compile_alternatives(
+    alloc: Global,
+    members: &Members,
+) -> Result<Option<Vec<SchemaNode>>, NoMemory>
     requires { faults_within one_of (members_of members.now) ≡ [] }
     ensures { IfOk result (λ o. (v : Json) →
         (IfSome o (λ nodes. Asks one_of (list_of nodes.items) v) ↔ Within one_of (members_of members.now) v)) }
@@ -56,7 +59,7 @@ fn compile_alternatives(alloc: Global, members: &Members) -> Result<Option<Vec<N
 }
 
 #[cycle(compilation)]
-fn alternatives_in(alloc: Global, tree: &Tree) -> Result<Option<Vec<Node>>, NoMemory>
+fn alternatives_in(alloc: Global, tree: &Tree) -> Result<Option<Vec<SchemaNode>>, NoMemory>
     requires { faults_below one_of (json_of tree.now) ≡ [] }
     ensures { IfOk result (λ o. (v : Json) →
         (IfSome o (λ nodes. Asks one_of (list_of nodes.items) v) ↔ Asks one_of (json_of tree.now) v)) }
@@ -99,7 +102,7 @@ fn item_rule_in(alloc: Global, tree: &Tree) -> Result<ItemRule, NoMemory>
     }
 }
 
-fn boxed(alloc: Global, node: Node) -> Result<Box<Node>, NoMemory>
+fn boxed(alloc: Global, node: SchemaNode) -> Result<Box<SchemaNode>, NoMemory>
     ensures { IfOk result (λ b. b.value ≡ node) }
 {
     let node = Box::new(alloc, node)?;
@@ -108,7 +111,7 @@ fn boxed(alloc: Global, node: Node) -> Result<Box<Node>, NoMemory>
 
 /// Compiles the value of `properties`.
 #[cycle(compilation)]
-fn compile_properties(alloc: Global, members: &Members) -> Result<Vec<(Text, Node)>, NoMemory>
+fn compile_properties(alloc: Global, members: &Members) -> Result<Vec<(Text, SchemaNode)>, NoMemory>
     requires { faults_within properties_row (members_of members.now) ≡ [] }
     ensures { IfOk result (λ named. (v : Json) →
         (Asks properties_row (properties_of named.items) v ↔ Within properties_row (members_of members.now) v)) }
@@ -120,7 +123,7 @@ fn compile_properties(alloc: Global, members: &Members) -> Result<Vec<(Text, Nod
 }
 
 #[cycle(compilation)]
-fn properties_in(alloc: Global, tree: &Tree) -> Result<Vec<(Text, Node)>, NoMemory>
+fn properties_in(alloc: Global, tree: &Tree) -> Result<Vec<(Text, SchemaNode)>, NoMemory>
     requires { faults_below properties_row (json_of tree.now) ≡ [] }
     ensures { IfOk result (λ named. (v : Json) →
         (Asks properties_row (properties_of named.items) v ↔ Asks properties_row (json_of tree.now) v)) }
@@ -133,7 +136,7 @@ fn properties_in(alloc: Global, tree: &Tree) -> Result<Vec<(Text, Node)>, NoMemo
 
 /// The schemas of a list.
 #[cycle(compilation)]
-fn compile_list(alloc: Global, schemas: &[Tree]) -> Result<Vec<Node>, NoMemory>
+fn compile_list(alloc: Global, schemas: &[Tree]) -> Result<Vec<SchemaNode>, NoMemory>
     requires { faults_of_list 0 (elements_of (json_items schemas.now)) ≡ [] }
     ensures { IfOk result (λ nodes. AllAlike (map schema_of nodes.items) (json_items schemas.now)) }
 {
@@ -145,7 +148,7 @@ fn compile_list(alloc: Global, schemas: &[Tree]) -> Result<Vec<Node>, NoMemory>
     Ok(nodes)
 }
 
-fn push_node(nodes: &mut Vec<Node>, node: Node) -> Result<(), NoMemory>
+fn push_node(nodes: &mut Vec<SchemaNode>, node: SchemaNode) -> Result<(), NoMemory>
     ensures { OnOk result (nodes.new.items ≡ nodes.old.items ++ node ∷ []) }
 {
     nodes.push(node)?;
@@ -154,7 +157,10 @@ fn push_node(nodes: &mut Vec<Node>, node: Node) -> Result<(), NoMemory>
 
 /// The schemas of an object's members, with their names.
 #[cycle(compilation)]
-fn compile_named(alloc: Global, schemas: &[(Text, Tree)]) -> Result<Vec<(Text, Node)>, NoMemory>
+fn compile_named(
+    alloc: Global,
+    schemas: &[(Text, Tree)],
+) -> Result<Vec<(Text, SchemaNode)>, NoMemory>
     requires { faults_of_members (members_of (json_members schemas.now)) ≡ [] }
     ensures { IfOk result (λ named. NamedAlike (schemas_of named.items) (json_members schemas.now)) }
 {
@@ -167,7 +173,11 @@ fn compile_named(alloc: Global, schemas: &[(Text, Tree)]) -> Result<Vec<(Text, N
     Ok(named)
 }
 
-fn push_named(nodes: &mut Vec<(Text, Node)>, name: Text, node: Node) -> Result<(), NoMemory>
+fn push_named(
+    nodes: &mut Vec<(Text, SchemaNode)>,
+    name: Text,
+    node: SchemaNode,
+) -> Result<(), NoMemory>
     ensures { OnOk result (nodes.new.items ≡ nodes.old.items ++ (name, node) ∷ []) }
 {
     nodes.push((name, node))?;

@@ -36,17 +36,17 @@ impl From<NoMemory> for SchemaFault {
 }
 
 /// The finding of a check: nothing, or the first fault, with its place seen from the value that was checked.
-pub(crate) type Found = Result<(), SchemaFault>;
+pub(crate) type Checked = Result<(), SchemaFault>;
 
 /// Reports that a value has another form than is asked for.
-pub(crate) fn malformed(alloc: Global) -> Found
+pub(crate) fn malformed(alloc: Global) -> Checked
     ensures { FindsFirst wrong_form result }
 {
     Err(SchemaFault::Malformed(Text::from_string(String::new(alloc))))
 }
 
 /// Reports that a value is not supported, or is a word that is not.
-pub(crate) fn unsupported(alloc: Global, word: &str) -> Found
+pub(crate) fn unsupported(alloc: Global, word: &str) -> Checked
     ensures { FindsFirst (unsupported_word word.now) result }
 {
     let word = Text::copy_of(alloc, word)?;
@@ -54,7 +54,7 @@ pub(crate) fn unsupported(alloc: Global, word: &str) -> Found
 }
 
 /// The finding of a member, with its place seen from the object.
-pub(crate) fn in_member(alloc: Global, name: &str, found: Found) -> Found
+pub(crate) fn in_member(alloc: Global, name: &str, found: Checked) -> Checked
     ensures { (faults : List SchemaFault) → FindsFirst faults found → FindsFirst (faults_in_member name.now faults) result }
 {
     match found {
@@ -67,7 +67,7 @@ pub(crate) fn in_member(alloc: Global, name: &str, found: Found) -> Found
 }
 
 /// The finding of an element, with its place seen from the list.
-pub(crate) fn in_element(alloc: Global, index: usize, found: Found) -> Found
+pub(crate) fn in_element(alloc: Global, index: usize, found: Checked) -> Checked
     ensures { (faults : List SchemaFault) → FindsFirst faults found → FindsFirst (faults_in_element index faults) result }
 {
     match found {
@@ -80,7 +80,7 @@ pub(crate) fn in_element(alloc: Global, index: usize, found: Found) -> Found
 }
 
 /// A fault that is reached through a step.
-fn through(step: Text, fault: SchemaFault) -> Found
+fn through(step: Text, fault: SchemaFault) -> Checked
     ensures { (faults : List SchemaFault) → FindsFirst faults (Err fault) → FindsFirst (map (fault_through step) faults) result }
 {
     match fault {

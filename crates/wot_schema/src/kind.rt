@@ -12,7 +12,7 @@ use wot_json::Tree;
 
 /// A type of values (TD 1.1, section 5.3.2), without `number`.
 #[derive(Clone, Copy, Debug, PartialEq, Eq)]
-pub(crate) enum Kind {
+pub(crate) enum ValueType {
     Boolean,
     Integer,
     String,
@@ -22,31 +22,31 @@ pub(crate) enum Kind {
 }
 
 /// The type of this name.
-pub(crate) fn kind_named(name: &str) -> Option<Kind>
+pub(crate) fn kind_named(name: &str) -> Option<ValueType>
     ensures some { IfSome result (λ k. name.now ≡ kind_name k) }
     ensures none { IfNone result (list_any (bytes_eq name.now) type_names ≡ false) }
 {
     match name {
-        "boolean" => Some(Kind::Boolean),
-        "integer" => Some(Kind::Integer),
-        "string" => Some(Kind::String),
-        "null" => Some(Kind::Null),
-        "array" => Some(Kind::Array),
-        "object" => Some(Kind::Object),
+        "boolean" => Some(ValueType::Boolean),
+        "integer" => Some(ValueType::Integer),
+        "string" => Some(ValueType::String),
+        "null" => Some(ValueType::Null),
+        "array" => Some(ValueType::Array),
+        "object" => Some(ValueType::Object),
         _ => None,
     }
 }
 
 /// The type of a value.
-pub(crate) fn kind_of(value: &Tree) -> Kind
+pub(crate) fn kind_of(value: &Tree) -> ValueType
     ensures { kind_name result ≡ type_of (json_of value.now) }
 {
     match value {
-        Tree::Null => Kind::Null,
-        Tree::Bool(_) => Kind::Boolean,
-        Tree::Int(_) => Kind::Integer,
-        Tree::Text(_) => Kind::String,
-        Tree::List(_) => Kind::Array,
-        Tree::Obj(_) => Kind::Object,
+        Tree::Null => ValueType::Null,
+        Tree::Bool(_) => ValueType::Boolean,
+        Tree::Int(_) => ValueType::Integer,
+        Tree::Text(_) => ValueType::String,
+        Tree::List(_) => ValueType::Array,
+        Tree::Obj(_) => ValueType::Object,
     }
 }

@@ -7,11 +7,11 @@ use wot_json::Text;
 /// A compiled schema. Contracts see it as the members that would give its rules.
 #[derive(Debug, Drop)]
 #[cycle(node)]
-pub(crate) struct Node {
+pub(crate) struct SchemaNode {
     pub(crate) rules: Rules,
-    pub(crate) alternatives: Option<Vec<Node>>,
+    pub(crate) alternatives: Option<Vec<SchemaNode>>,
     pub(crate) items: ItemRule,
-    pub(crate) properties: Vec<(Text, Node)>,
+    pub(crate) properties: Vec<(Text, SchemaNode)>,
 }
 
 /// The schemas against which the elements of a list are held.
@@ -19,12 +19,12 @@ pub(crate) struct Node {
 #[cycle(node)]
 pub(crate) enum ItemRule {
     /// Each against one schema.
-    Each(Box<Node>),
+    Each(Box<SchemaNode>),
     /// The i-th against the i-th, and further ones against none.
-    InOrder(Vec<Node>),
+    InOrder(Vec<SchemaNode>),
 }
 
-impl Model for Node {
+impl Model for SchemaNode {
     ghost use Rattle.std.specs.Prelude.{List, ℕ};
     ghost use Rattle.wot_json.specs.JsonCodes.{members_code};
     ghost use Rattle.wot_json.specs.Tree.{Json, most_member_nesting};

@@ -12,7 +12,7 @@ ghost use Rattle.wot_schema.specs.Kinds.{kind_name};
 ghost use Rattle.wot_schema.specs.Rules.{AreRulesOf, IsAllowed, AreContentsAllowed, IsAmong, HasAll};
 
 use crate::counts::CountRange;
-use crate::kind::{Kind, kind_named, kind_of};
+use crate::kind::{ValueType, kind_named, kind_of};
 use crate::numbers::NumberRules;
 use std::alloc::Global;
 use wot_json::{Items, Members, NoMemory, Text, Tree, copy, is_equal};
@@ -20,7 +20,7 @@ use wot_json::{Items, Members, NoMemory, Text, Tree, copy, is_equal};
 /// The rows of the table that hold no schemas.
 #[derive(Debug, Drop)]
 pub(crate) struct Rules {
-    pub(crate) kind: Option<Kind>,
+    pub(crate) kind: Option<ValueType>,
     pub(crate) constant: Option<Tree>,
     pub(crate) choices: Option<Vec<Tree>>,
     pub(crate) numbers: NumberRules,
@@ -116,7 +116,7 @@ fn has_all(members: &Members, names: &[Text]) -> bool
     true
 }
 
-fn read_kind(members: &Members) -> Option<Kind>
+fn read_kind(members: &Members) -> Option<ValueType>
     requires { IsMet (members_of members.now) (codes "type", type_name) }
     ensures { value_under (codes "type") (members_of members.now) ≡ option_map (λ k. string (kind_name k)) result }
 {

@@ -8,7 +8,7 @@ ghost use Rattle.wot_schema.specs.Faults.{schema_faults, IsSchemaRefusal};
 use crate::SchemaFault;
 use crate::acceptance::accepts;
 use crate::compilation::compile;
-use crate::node::Node;
+use crate::node::SchemaNode;
 use crate::validity::check;
 use std::alloc::Global;
 use std::marker::Model;
@@ -22,7 +22,7 @@ pub struct Schema {
     // through a reference hold a value for proofs alone.
     tree: Tree,
     // Accepts what the tree accepts, and leaves out what says nothing.
-    root: Node,
+    root: SchemaNode,
 }
 
 impl Model for Schema {

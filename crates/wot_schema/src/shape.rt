@@ -7,7 +7,7 @@ ghost use Rattle.wot_json.specs.Meaning.{json_of};
 ghost use Rattle.wot_schema.specs.Checks.{FindsFirst, judge_of};
 ghost use Rattle.wot_schema.specs.Faults.{row_faults, table_faults, type_name as type_name_judge, list_with_element as list_judge, number_above_zero, count, object_or_list, list_of_texts, are_texts as texts_test};
 
-use crate::fault::{Found, in_member, malformed, unsupported};
+use crate::fault::{Checked, in_member, malformed, unsupported};
 use crate::kind::kind_named;
 use std::alloc::Global;
 use wot_json::{Items, Members, Tree};
@@ -54,13 +54,13 @@ const TABLE: [(&str, Shape); 19] = [
 ];
 
 /// The members that the table speaks of are as it asks.
-pub(crate) fn check_table(alloc: Global, members: &Members) -> Found
+pub(crate) fn check_table(alloc: Global, members: &Members) -> Checked
     ensures { FindsFirst (table_faults (members_of members.now)) result }
 {
     check_rows(alloc, members, &TABLE)
 }
 
-fn check_rows(alloc: Global, members: &Members, rows: &[(&'static str, Shape)]) -> Found
+fn check_rows(alloc: Global, members: &Members, rows: &[(&'static str, Shape)]) -> Checked
     ensures { FindsFirst (flat_map (row_faults (members_of members.now)) (map (λ r. (r.0.now, judge_of r.0.now r.1)) rows.now)) result }
 {
     for (name, shape) in rows {
@@ -69,7 +69,7 @@ fn check_rows(alloc: Global, members: &Members, rows: &[(&'static str, Shape)]) 
     Ok(())
 }
 
-fn check_row(alloc: Global, members: &Members, name: &str, shape: Shape) -> Found
+fn check_row(alloc: Global, members: &Members, name: &str, shape: Shape) -> Checked
     ensures { FindsFirst (row_faults (members_of members.now) (name.now, judge_of name.now shape)) result }
 {
     match members.value_under(name) {
@@ -79,7 +79,7 @@ fn check_row(alloc: Global, members: &Members, name: &str, shape: Shape) -> Foun
 }
 
 impl Shape {
-    fn check(self, alloc: Global, name: &str, value: &Tree) -> Found
+    fn check(self, alloc: Global, name: &str, value: &Tree) -> Checked
         ensures { FindsFirst (judge_of name.now self (json_of value.now)) result }
     {
         match (self, value) {
@@ -98,7 +98,7 @@ impl Shape {
     }
 }
 
-fn type_name(alloc: Global, value: &Tree) -> Found
+fn type_name(alloc: Global, value: &Tree) -> Checked
     ensures { FindsFirst (type_name_judge (json_of value.now)) result }
 {
     match value {
@@ -111,7 +111,7 @@ fn type_name(alloc: Global, value: &Tree) -> Found
     }
 }
 
-fn list_with_element(alloc: Global, value: &Tree) -> Found
+fn list_with_element(alloc: Global, value: &Tree) -> Checked
     ensures { FindsFirst (list_judge (json_of value.now)) result }
 {
     match value {

@@ -8,7 +8,7 @@ ghost use Rattle.wot_schema.specs.Checks.{FindsFirst};
 ghost use Rattle.wot_schema.specs.Faults.{schema_faults, faults_within, faults_below, faults_of_list, faults_of_members, IsSchemaRefusal};
 
 use crate::SchemaFault;
-use crate::fault::{Found, in_element, in_member, malformed};
+use crate::fault::{Checked, in_element, in_member, malformed};
 use crate::shape::check_table;
 use std::alloc::Global;
 use wot_json::{Members, Text, Tree};
@@ -28,7 +28,7 @@ pub fn check(alloc: Global, tree: &Tree) -> Result<(), SchemaFault>
 }
 
 #[cycle(checking)]
-fn check_schema(alloc: Global, tree: &Tree) -> Found
+fn check_schema(alloc: Global, tree: &Tree) -> Checked
     ensures { FindsFirst (schema_faults (json_of tree.now)) result }
 {
     match tree {
@@ -38,7 +38,7 @@ fn check_schema(alloc: Global, tree: &Tree) -> Found
 }
 
 #[cycle(checking)]
-fn check_members(alloc: Global, members: &Members) -> Found
+fn check_members(alloc: Global, members: &Members) -> Checked
     ensures { FindsFirst (schema_faults (object (members_of members.now))) result }
 {
     check_table(alloc, members)?;
@@ -49,7 +49,7 @@ fn check_members(alloc: Global, members: &Members) -> Found
 
 /// The schemas that `oneOf` holds.
 #[cycle(checking)]
-fn check_alternatives(alloc: Global, members: &Members) -> Found
+fn check_alternatives(alloc: Global, members: &Members) -> Checked
     ensures { FindsFirst (faults_within one_of (members_of members.now)) result }
 {
     match members.value_under("oneOf") {
@@ -59,7 +59,7 @@ fn check_alternatives(alloc: Global, members: &Members) -> Found
 }
 
 #[cycle(checking)]
-fn alternatives_found(alloc: Global, tree: &Tree) -> Found
+fn alternatives_found(alloc: Global, tree: &Tree) -> Checked
     ensures { FindsFirst (faults_below one_of (json_of tree.now)) result }
 {
     match tree {
@@ -70,7 +70,7 @@ fn alternatives_found(alloc: Global, tree: &Tree) -> Found
 
 /// The schema or the schemas that `items` holds.
 #[cycle(checking)]
-fn check_items(alloc: Global, members: &Members) -> Found
+fn check_items(alloc: Global, members: &Members) -> Checked
     ensures { FindsFirst (faults_within items_row (members_of members.now)) result }
 {
     match members.value_under("items") {
@@ -80,7 +80,7 @@ fn check_items(alloc: Global, members: &Members) -> Found
 }
 
 #[cycle(checking)]
-fn items_found(alloc: Global, tree: &Tree) -> Found
+fn items_found(alloc: Global, tree: &Tree) -> Checked
     ensures { FindsFirst (faults_below items_row (json_of tree.now)) result }
 {
     match tree {
@@ -92,7 +92,7 @@ fn items_found(alloc: Global, tree: &Tree) -> Found
 
 /// The schemas that `properties` holds.
 #[cycle(checking)]
-fn check_properties(alloc: Global, members: &Members) -> Found
+fn check_properties(alloc: Global, members: &Members) -> Checked
     ensures { FindsFirst (faults_within properties_row (members_of members.now)) result }
 {
     match members.value_under("properties") {
@@ -102,7 +102,7 @@ fn check_properties(alloc: Global, members: &Members) -> Found
 }
 
 #[cycle(checking)]
-fn properties_found(alloc: Global, tree: &Tree) -> Found
+fn properties_found(alloc: Global, tree: &Tree) -> Checked
     ensures { FindsFirst (faults_below properties_row (json_of tree.now)) result }
 {
     match tree {
@@ -112,7 +112,7 @@ fn properties_found(alloc: Global, tree: &Tree) -> Found
 }
 
 #[cycle(checking)]
-fn check_list(alloc: Global, schemas: &[Tree]) -> Found
+fn check_list(alloc: Global, schemas: &[Tree]) -> Checked
     ensures { FindsFirst (faults_of_list 0 (elements_of (json_items schemas.now))) result }
 {
     for (index, schema) in schemas.iter().enumerate() {
@@ -122,7 +122,7 @@ fn check_list(alloc: Global, schemas: &[Tree]) -> Found
 }
 
 #[cycle(checking)]
-fn check_named(alloc: Global, schemas: &[(Text, Tree)]) -> Found
+fn check_named(alloc: Global, schemas: &[(Text, Tree)]) -> Checked
     ensures { FindsFirst (faults_of_members (members_of (json_members schemas.now))) result }
 {
     for (name, schema) in schemas {

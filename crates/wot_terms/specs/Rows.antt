@@ -8,8 +8,8 @@ use Rattle.wot_terms.specs.declared.fault.CheckFault.{CheckFault}
 use Rattle.wot_terms.specs.declared.fault.CheckFault.TheVariants as check_fault
 use Rattle.wot_terms.specs.declared.demand.Demand.{Demand}
 use Rattle.wot_terms.specs.declared.demand.Demand.TheVariants as demand
-use Rattle.wot_terms.specs.declared.entries.Entry.{Entry}
-use Rattle.wot_terms.specs.declared.entries.Entry.TheVariants as entry
+use Rattle.wot_terms.specs.declared.entries.EntryRule.{EntryRule}
+use Rattle.wot_terms.specs.declared.entries.EntryRule.TheVariants as entry
 use Rattle.wot_terms.specs.declared.forms.FormRow.{FormRow}
 use Rattle.wot_terms.specs.declared.forms.FormRow.TheVariants as form_row
 use Rattle.wot_terms.specs.declared.affordances.AffordanceRow.{AffordanceRow}
@@ -37,7 +37,7 @@ form_judge form_row.Operations place ms = form_operations place ms
 form_judge form_row.Texts place ms = form_texts place ms
 
 -- the demand on an element of a list or a member of an object
-abbrev pub entry_judge : Entry → Judge
+abbrev pub entry_judge : EntryRule → Judge
 entry_judge entry.Object v = any_object v
 entry_judge entry.Text v = text v
 entry_judge entry.Definition v = object_with (required_member (codes "scheme") (is (is_text_with (bytes_eq (codes "nosec"))))) v

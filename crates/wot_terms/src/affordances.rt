@@ -8,7 +8,7 @@ ghost use Rattle.wot_terms.specs.Rows.{IsFinding, affordance_judge, form_judge};
 
 use crate::Kind;
 use crate::demand::{Demand, optional_each, schema};
-use crate::entries::{Entry, each_element, list_of_some};
+use crate::entries::{EntryRule, each_element, list_of_some};
 use crate::fault::{Finding, in_member, missing};
 use crate::forms::FormRow;
 use std::alloc::Global;
@@ -117,7 +117,11 @@ fn forms(alloc: Global, affordance: &Members) -> Finding
 {
     match affordance.get("forms") {
         None => missing(alloc, "forms"),
-        Some(value) => in_member(alloc, "forms", list_of_some(alloc, value, Entry::Object)),
+        Some(value) => in_member(
+            alloc,
+            "forms",
+            list_of_some(alloc, value, EntryRule::Object),
+        ),
     }
 }
 
@@ -136,7 +140,7 @@ fn forms_in(alloc: Global, value: &Tree, row: FormRow, place: Option<Kind>) -> F
     ensures { IsFinding (if_list (if_object (form_judge row place)) (json_of value.now)) result }
 {
     match value {
-        Tree::List(forms) => each_element(alloc, forms.as_slice(), Entry::Form(row, place)),
+        Tree::List(forms) => each_element(alloc, forms.as_slice(), EntryRule::Form(row, place)),
         _ => Ok(()),
     }
 }

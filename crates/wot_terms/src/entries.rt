@@ -15,7 +15,7 @@ use wot_json::{Members, Text, Tree};
 
 /// A demand on each element of a list, or on each member of an object.
 #[derive(Clone, Copy, Debug)]
-pub(crate) enum Entry {
+pub(crate) enum EntryRule {
     Object,
     Text,
     /// A security definition (TD 1.1, section 5.3.3.1).
@@ -28,21 +28,21 @@ pub(crate) enum Entry {
     Form(FormRow, Option<Kind>),
 }
 
-impl Entry {
+impl EntryRule {
     fn check(self, alloc: Global, value: &Tree) -> Finding
         ensures { IsFinding (entry_judge self (json_of value.now)) result }
     {
         match (self, value) {
-            (Entry::Object, Tree::Obj(_)) | (Entry::Text, Tree::Text(_)) => Ok(()),
-            (Entry::Definition, Tree::Obj(members)) => {
+            (EntryRule::Object, Tree::Obj(_)) | (EntryRule::Text, Tree::Text(_)) => Ok(()),
+            (EntryRule::Definition, Tree::Obj(members)) => {
                 required(alloc, members, "scheme", Demand::NoSecurity)
             }
-            (Entry::RootForm, Tree::Obj(members)) => {
+            (EntryRule::RootForm, Tree::Obj(members)) => {
                 required(alloc, members, "op", Demand::Anything)
             }
-            (Entry::Link, Tree::Obj(members)) => link(alloc, members),
-            (Entry::Form(row, place), Tree::Obj(members)) => form(alloc, members, row, place),
-            (Entry::Form(_, _), _) => Ok(()),
+            (EntryRule::Link, Tree::Obj(members)) => link(alloc, members),
+            (EntryRule::Form(row, place), Tree::Obj(members)) => form(alloc, members, row, place),
+            (EntryRule::Form(_, _), _) => Ok(()),
             _ => wrong(alloc),
         }
     }
@@ -56,7 +56,7 @@ fn link(alloc: Global, members: &Members) -> Finding
 }
 
 /// Each element of a list is as asked.
-pub(crate) fn each_element(alloc: Global, items: &[Tree], entry: Entry) -> Finding
+pub(crate) fn each_element(alloc: Global, items: &[Tree], entry: EntryRule) -> Finding
     ensures { IsFinding (each_of (entry_judge entry) 0 (elements_of (json_items items.now))) result }
 {
     for (index, item) in items.iter().enumerate() {
@@ -66,7 +66,7 @@ pub(crate) fn each_element(alloc: Global, items: &[Tree], entry: Entry) -> Findi
 }
 
 /// Each member of an object is as asked.
-pub(crate) fn each_member(alloc: Global, members: &[(Text, Tree)], entry: Entry) -> Finding
+pub(crate) fn each_member(alloc: Global, members: &[(Text, Tree)], entry: EntryRule) -> Finding
     ensures { IsFinding
         (each_named (entry_judge entry) (members_of (json_members members.now)))
         result }
@@ -78,7 +78,7 @@ pub(crate) fn each_member(alloc: Global, members: &[(Text, Tree)], entry: Entry)
 }
 
 /// The value is a list of such elements.
-pub(crate) fn list_of(alloc: Global, value: &Tree, entry: Entry) -> Finding
+pub(crate) fn list_of(alloc: Global, value: &Tree, entry: EntryRule) -> Finding
     ensures { IsFinding (list_judge (entry_judge entry) (json_of value.now)) result }
 {
     match value {
@@ -88,7 +88,7 @@ pub(crate) fn list_of(alloc: Global, value: &Tree, entry: Entry) -> Finding
 }
 
 /// The value is a list, not empty, of such elements.
-pub(crate) fn list_of_some(alloc: Global, value: &Tree, entry: Entry) -> Finding
+pub(crate) fn list_of_some(alloc: Global, value: &Tree, entry: EntryRule) -> Finding
     ensures { IsFinding (list_of_some_judge (entry_judge entry) (json_of value.now)) result }
 {
     match value {

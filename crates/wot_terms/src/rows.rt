@@ -6,11 +6,11 @@ ghost use Rattle.wot_json.specs.Meaning.{json_of, json_items};
 ghost use Rattle.wot_terms.specs.Faults.{is, is_text_with, each_element as each_of, each_member as each_named, object_with, object_of_some, required_member, texts, context as context_row, security_definitions as security_definitions_row, security as security_row, is_defined as is_defined_in, types as types_row, type_of_thing as type_of_thing_judge, affordances as affordances_row, affordance_maps as affordance_maps_row, root_forms as root_forms_row, links as links_row, version as version_row};
 ghost use Rattle.wot_terms.specs.Rows.{IsFinding, entry_judge, judge_of};
 ghost use Rattle.wot_terms.specs.declared.demand.Demand.{Demand};
-ghost use Rattle.wot_terms.specs.declared.entries.Entry.{Entry};
+ghost use Rattle.wot_terms.specs.declared.entries.EntryRule.{EntryRule};
 
 use crate::Kind;
 use crate::demand::{Demand, required};
-use crate::entries::{Entry, each_element, each_member, list_of};
+use crate::entries::{EntryRule, each_element, each_member, list_of};
 use crate::fault::{Finding, in_element, in_member, missing, wrong, wrong_unless};
 use std::alloc::Global;
 use wot_json::{Members, Tree, has_text};
@@ -47,11 +47,11 @@ pub(crate) fn security_definitions(alloc: Global, root: &Members) -> Finding
 }
 
 fn definitions(alloc: Global, value: &Tree) -> Finding
-    ensures { IsFinding (object_of_some (entry_judge Entry.Definition) (json_of value.now)) result }
+    ensures { IsFinding (object_of_some (entry_judge EntryRule.Definition) (json_of value.now)) result }
 {
     match value {
         Tree::Obj(definitions) if definitions.len() > 0 => {
-            each_member(alloc, definitions.as_slice(), Entry::Definition)
+            each_member(alloc, definitions.as_slice(), EntryRule::Definition)
         }
         _ => wrong(alloc),
     }
@@ -129,7 +129,7 @@ fn type_of_thing(alloc: Global, value: &Tree) -> Finding
     }
     match value {
         Tree::Text(_) => Ok(()),
-        Tree::List(items) => each_element(alloc, items.as_slice(), Entry::Text),
+        Tree::List(items) => each_element(alloc, items.as_slice(), EntryRule::Text),
         _ => wrong(alloc),
     }
 }
@@ -158,11 +158,11 @@ fn affordance_map(alloc: Global, root: &Members, kind: Kind) -> Finding
 /// The value is an object of objects.
 fn objects(alloc: Global, value: &Tree) -> Finding
     ensures { IsFinding
-        (object_with (each_named (entry_judge Entry.Object)) (json_of value.now))
+        (object_with (each_named (entry_judge EntryRule.Object)) (json_of value.now))
         result }
 {
     match value {
-        Tree::Obj(members) => each_member(alloc, members.as_slice(), Entry::Object),
+        Tree::Obj(members) => each_member(alloc, members.as_slice(), EntryRule::Object),
         _ => wrong(alloc),
     }
 }
@@ -174,7 +174,7 @@ pub(crate) fn root_forms(alloc: Global, root: &Members) -> Finding
 {
     match root.get("forms") {
         None => Ok(()),
-        Some(value) => in_member(alloc, "forms", list_of(alloc, value, Entry::RootForm)),
+        Some(value) => in_member(alloc, "forms", list_of(alloc, value, EntryRule::RootForm)),
     }
 }
 
@@ -185,7 +185,7 @@ pub(crate) fn links(alloc: Global, root: &Members) -> Finding
 {
     match root.get("links") {
         None => Ok(()),
-        Some(value) => in_member(alloc, "links", list_of(alloc, value, Entry::Link)),
+        Some(value) => in_member(alloc, "links", list_of(alloc, value, EntryRule::Link)),
     }
 }
 

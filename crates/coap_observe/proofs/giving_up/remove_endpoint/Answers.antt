@@ -1,6 +1,6 @@
 -- Each turn takes one of the endpoint's observers away, until none is left.
 use Rattle.std.proofs.Common.{◌<◌, ◌∙◌, length, sym, ap, subst, refl}
-use Rattle.coap_observe.specs.Places.{Places, watchers_in}
+use Rattle.coap_observe.specs.Places.{Places, observers_in}
 use Rattle.coap_observe.specs.Watching.{is_from, without}
 use Rattle.coap_observe.proofs.ViewLaws.{removed_of_many, fewer_left, all_stay}
 use Rattle.coap_observe.proofs.giving_up.remove_endpoint.Goals as goal
@@ -18,10 +18,10 @@ loop-slot-smaller c =
 
 pub loop-slot-preserved : goal.loop-slot-preserved
 loop-slot-preserved c = record {
-  left = ap (λ (t : Places). without (is_from c.args.from) (watchers_in t)) c.remove.ensures
+  left = ap (λ (t : Places). without (is_from c.args.from) (observers_in t)) c.remove.ensures
       ∙ (removed_of_many (is_from c.args.from) c.loop-slot.slots c.in-Some.slot c.in-Some.ensures.0 c.in-Some.ensures.1 c.in-Some.ensures.2 ∙ c.loop-slot.invariant.left);
   capacity = ap (λ (t : Places). t.capacity) c.remove.ensures ∙ c.loop-slot.invariant.capacity;
 }
 
-pub returns-clause-watchers : goal.returns-clause-watchers
-returns-clause-watchers c = sym (all_stay (is_from c.args.from) (watchers_in c.loop-slot.slots) c.in_default.ensures) ∙ c.loop-slot.invariant.left
+pub returns-clause-observers : goal.returns-clause-observers
+returns-clause-observers c = sym (all_stay (is_from c.args.from) (observers_in c.loop-slot.slots) c.in_default.ensures) ∙ c.loop-slot.invariant.left

@@ -2,21 +2,21 @@
 use Rattle.std.proofs.Common.{◌≡◌, ◌<◌, ◌∷◌, ◌∙◌, true, false, IfSome, find, length, sym, ap, subst, arith}
 use Rattle.slot_lists.specs.Lists.{list_at, from_slot, IsIn}
 use Rattle.slot_lists.proofs.Neighbours.{from_first}
-use Rattle.coap_observe.specs.Kept.{watcher_at}
+use Rattle.coap_observe.specs.Kept.{observer_at}
 use Rattle.coap_observe.specs.Watching.{is_due}
 use Rattle.coap_observe.proofs.SlotLaws.{found_at_slot, found_further}
-use Rattle.coap_observe.proofs.WalkLaws.{read_watcher}
+use Rattle.coap_observe.proofs.WalkLaws.{read_observer}
 use Rattle.coap_observe.proofs.walks.due_slot.Goals as goal
 
 pub loop-current-init : goal.loop-current-init
 loop-current-init c = record {
-  found = sym (ap (find (λ slot. is_due c.args.now (watcher_at c.args.watchers.now slot)))
+  found = sym (ap (find (λ slot. is_due c.args.now (observer_at c.args.observers.now slot)))
       (ap (λ o. from_slot o (list_at 0 c.args.order.now)) c.first-current.ensures.first ∙ from_first (list_at 0 c.args.order.now)));
   member = c.first-current.ensures.member;
 }
 
-pub bounds-watchers-slot : goal.bounds-watchers-slot
-bounds-watchers-slot c =
+pub bounds-observers-slot : goal.bounds-observers-slot
+bounds-observers-slot c =
     let member : IsIn 0 c.args.order.now c.in-Some.slot = subst (λ o. IfSome o (IsIn 0 c.args.order.now)) c.in-Some.is c.loop-current.invariant.member in
     let below : c.in-Some.slot < c.args.order.now.capacity = member.1 in
     omega arith
@@ -30,13 +30,13 @@ pub returns-then-is_due : goal.returns-then-is_due
 returns-then-is_due c =
     let member : IsIn 0 c.args.order.now c.in-Some.slot = subst (λ o. IfSome o (IsIn 0 c.args.order.now)) c.in-Some.is c.loop-current.invariant.member in
     let below : c.in-Some.slot < c.args.order.now.capacity = member.1 in
-    let read : c.index-watchers-slot.result ≡ watcher_at c.args.watchers.now c.in-Some.slot
-    = c.index-watchers-slot.is ∙ read_watcher c.args.watchers.now c.in-Some.slot c.index-watchers-slot.result (omega arith) in
-    let passes : is_due c.args.now (watcher_at c.args.watchers.now c.in-Some.slot) ≡ true
+    let read : c.index-observers-slot.result ≡ observer_at c.args.observers.now c.in-Some.slot
+    = c.index-observers-slot.is ∙ read_observer c.args.observers.now c.in-Some.slot c.index-observers-slot.result (omega arith) in
+    let passes : is_due c.args.now (observer_at c.args.observers.now c.in-Some.slot) ≡ true
     = ap (is_due c.args.now) (sym read) ∙ (sym c.is_due.ensures ∙ c.if-is_due.true) in
-    let here = found_at_slot (λ slot. is_due c.args.now (watcher_at c.args.watchers.now slot)) c.in-Some.slot (list_at 0 c.args.order.now) member.0 passes in
+    let here = found_at_slot (λ slot. is_due c.args.now (observer_at c.args.observers.now slot)) c.in-Some.slot (list_at 0 c.args.order.now) member.0 passes in
     sym (c.loop-current.invariant.found
-    ∙ (ap (λ o. find (λ slot. is_due c.args.now (watcher_at c.args.watchers.now slot)) (from_slot o (list_at 0 c.args.order.now))) c.in-Some.is ∙ here))
+    ∙ (ap (λ o. find (λ slot. is_due c.args.now (observer_at c.args.observers.now slot)) (from_slot o (list_at 0 c.args.order.now))) c.in-Some.is ∙ here))
 
 pub loop-current-smaller : goal.loop-current-smaller
 loop-current-smaller c =
@@ -50,19 +50,19 @@ pub loop-current-preserved : goal.loop-current-preserved
 loop-current-preserved c =
     let member : IsIn 0 c.args.order.now c.in-Some.slot = subst (λ o. IfSome o (IsIn 0 c.args.order.now)) c.in-Some.is c.loop-current.invariant.member in
     let below : c.in-Some.slot < c.args.order.now.capacity = member.1 in
-    let read : c.index-watchers-slot.result ≡ watcher_at c.args.watchers.now c.in-Some.slot
-    = c.index-watchers-slot.is ∙ read_watcher c.args.watchers.now c.in-Some.slot c.index-watchers-slot.result (omega arith) in
-    let fails : is_due c.args.now (watcher_at c.args.watchers.now c.in-Some.slot) ≡ false
+    let read : c.index-observers-slot.result ≡ observer_at c.args.observers.now c.in-Some.slot
+    = c.index-observers-slot.is ∙ read_observer c.args.observers.now c.in-Some.slot c.index-observers-slot.result (omega arith) in
+    let fails : is_due c.args.now (observer_at c.args.observers.now c.in-Some.slot) ≡ false
     = ap (is_due c.args.now) (sym read) ∙ (sym c.is_due.ensures ∙ c.if-is_due.false) in
-    let on = found_further (λ slot. is_due c.args.now (watcher_at c.args.watchers.now slot)) c.in-Some.slot c.after-current.result (list_at 0 c.args.order.now)
+    let on = found_further (λ slot. is_due c.args.now (observer_at c.args.observers.now slot)) c.in-Some.slot c.after-current.result (list_at 0 c.args.order.now)
     (c.after-current.ensures.after 0 member.0) fails in
     record {
       found = c.loop-current.invariant.found
-          ∙ (ap (λ o. find (λ slot. is_due c.args.now (watcher_at c.args.watchers.now slot)) (from_slot o (list_at 0 c.args.order.now))) c.in-Some.is ∙ on);
+          ∙ (ap (λ o. find (λ slot. is_due c.args.now (observer_at c.args.observers.now slot)) (from_slot o (list_at 0 c.args.order.now))) c.in-Some.is ∙ on);
       member = c.after-current.ensures.member 0 member.0;
     }
 
 pub returns : goal.returns
 returns c =
     sym (c.loop-current.invariant.found
-    ∙ ap (λ o. find (λ slot. is_due c.args.now (watcher_at c.args.watchers.now slot)) (from_slot o (list_at 0 c.args.order.now))) c.in_default.is)
+    ∙ ap (λ o. find (λ slot. is_due c.args.now (observer_at c.args.observers.now slot)) (from_slot o (list_at 0 c.args.order.now))) c.in_default.is)

@@ -1,14 +1,14 @@
 -- None of those before `current` is the one.
 use Rattle.std.proofs.Common.{◌≡◌, IfSome, find, length}
 use Rattle.slot_lists.specs.Lists.{list_at, from_slot, IsIn}
-use Rattle.coap_observe.specs.Kept.{watcher_at}
+use Rattle.coap_observe.specs.Kept.{observer_at}
 use Rattle.coap_observe.specs.Watching.{is_due}
 use Rattle.coap_observe.proofs.walks.due_slot.Given as goal
 
 abbrev pub invariant-loop-current : goal.invariant-loop-current
 invariant-loop-current l = record {
-  found : find (λ slot. is_due l.now (watcher_at l.watchers slot)) (list_at 0 l.order)
-      ≡ find (λ slot. is_due l.now (watcher_at l.watchers slot)) (from_slot l.current (list_at 0 l.order));
+  found : find (λ slot. is_due l.now (observer_at l.observers slot)) (list_at 0 l.order)
+      ≡ find (λ slot. is_due l.now (observer_at l.observers slot)) (from_slot l.current (list_at 0 l.order));
   member : IfSome l.current (IsIn 0 l.order);
 }
 

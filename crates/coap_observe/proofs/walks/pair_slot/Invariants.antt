@@ -1,14 +1,14 @@
 -- None of those before `current` is the one.
 use Rattle.std.proofs.Common.{◌≡◌, IfSome, find, length}
 use Rattle.slot_lists.specs.Lists.{list_at, from_slot, IsIn}
-use Rattle.coap_observe.specs.Kept.{watcher_at}
+use Rattle.coap_observe.specs.Kept.{observer_at}
 use Rattle.coap_observe.specs.Watching.{is_pair}
 use Rattle.coap_observe.proofs.walks.pair_slot.Given as goal
 
 abbrev pub invariant-loop-current : goal.invariant-loop-current
 invariant-loop-current l = record {
-  found : find (λ slot. is_pair l.from l.token (watcher_at l.watchers slot)) (list_at l.list l.lists)
-      ≡ find (λ slot. is_pair l.from l.token (watcher_at l.watchers slot)) (from_slot l.current (list_at l.list l.lists));
+  found : find (λ slot. is_pair l.from l.token (observer_at l.observers slot)) (list_at l.list l.lists)
+      ≡ find (λ slot. is_pair l.from l.token (observer_at l.observers slot)) (from_slot l.current (list_at l.list l.lists));
   member : IfSome l.current (IsIn l.list l.lists);
 }
 

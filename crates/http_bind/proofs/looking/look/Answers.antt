@@ -2,7 +2,7 @@ use Rattle.std.proofs.Common.{ap, ◌∙◌, subst, sym, refl, inl, inr}
 use Rattle.std.specs.Prelude.{Some, None}
 use Rattle.http_wire.specs.Reading.{asked}
 use Rattle.http_bind.specs.Replying.{is_head}
-use Rattle.http_bind.specs.declared.looking.Found.TheVariants as seen
+use Rattle.http_bind.specs.declared.looking.HeldFront.TheVariants as seen
 use Rattle.http_wire.specs.declared.scanned.Scanned.{Scanned}
 use Rattle.http_wire.specs.Stream.{IsFront}
 use Rattle.http_wire.specs.Scanned.{front_of, plain_head}

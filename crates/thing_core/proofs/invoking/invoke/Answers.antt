@@ -31,5 +31,5 @@ returns-in-Ok g c = λ path place.
     subst (λ (n : ℕ). MakesCall c.args.spot.slot (call.Invoke n c.handed_in-input.result) (gives c.in-Ok.answer) c.args.machine.now c.call.new.machine (g.R.Handlers.slots c.args.rack.now) (g.R.Handlers.slots c.call.new.rack))
     c.next_invocation-id.ensures.id
     (makes_answered c.slot.result c.args.spot.slot (call.Invoke c.next_invocation-id.result c.handed_in-input.result) c.in-Ok.answer c.args.machine.now c.call.new.machine (g.R.Handlers.slots c.args.rack.now) (g.R.Handlers.slots c.call.new.rack) c.slot.ensures c.in-Ok.ensures) in
-    invoked_after c.args.spot path c.args.prepared.place c.args.inputs.items c.handed_in-input.result c.in-Ok.answer c.settle.result c.args.machine.now c.call.new.machine c.settle.new.machine
-    (g.R.Handlers.slots c.args.rack.now) (g.R.Handlers.slots c.call.new.rack) c.handed_in-input.ensures k place c.settle.ensures
+    invoked_after c.args.spot path c.args.prepared.place c.args.inputs.items c.handed_in-input.result c.in-Ok.answer c.record_answer.result c.args.machine.now c.call.new.machine c.record_answer.new.machine
+    (g.R.Handlers.slots c.args.rack.now) (g.R.Handlers.slots c.call.new.rack) c.handed_in-input.ensures k place c.record_answer.ensures

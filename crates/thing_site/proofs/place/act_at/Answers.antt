@@ -2,7 +2,7 @@ use Rattle.std.proofs.Common.{◌≡◌, Bool, true, false, cond, sym, ap, ◌�
 use Rattle.std.specs.Prelude.{Some, None}
 use Rattle.thing_ops.specs.Verbs.{verbs_of}
 use Rattle.thing_site.specs.Places.{act_of, flags_of, is_listed}
-use Rattle.thing_site.specs.declared.place.Act.{Act}
+use Rattle.thing_site.specs.declared.place.ThingAct.{ThingAct}
 use Rattle.thing_site.proofs.VerbLaws.{flags_elsewhere, listed_if_taken, unlisted_if_not_taken}
 use Rattle.thing_site.proofs.place.act_at.Goals as goal
 use Rattle.thing_site.proofs.place.act_at.Goals.{in-Property, in_default}
@@ -16,7 +16,7 @@ returns-then-takes c =
     let listed : is_listed c.args.verb (verbs_of c.args.route (flags_of c.args.place)) ≡ true =
     ap (is_listed c.args.verb) (sym (c.allowed-allow.ensures ∙ ap (verbs_of c.args.route) flags))
     ∙ listed_if_taken c.allowed-allow.result c.args.verb (sym c.if-takes.ensures) in
-    ap (λ (b : Bool). cond b (Some (act_of c.args.place c.args.verb)) None) listed ∙ ap (λ (a : Act). Some a) (sym c.act_of.ensures)
+    ap (λ (b : Bool). cond b (Some (act_of c.args.place c.args.verb)) None) listed ∙ ap (λ (a : ThingAct). Some a) (sym c.act_of.ensures)
 
 pub returns-else-takes : goal.returns-else-takes
 returns-else-takes c =

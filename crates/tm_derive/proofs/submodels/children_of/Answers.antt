@@ -3,7 +3,7 @@ use Rattle.std.proofs.Common.{◌+◌, List, subst}
 use Rattle.tm_resolve.specs.ModelLinks.{kept_link}
 use Rattle.tm_derive.specs.Submodels.{link_faults, segments_of}
 use Rattle.tm_derive.specs.Refusals.{IsRefusal}
-use Rattle.tm_derive.specs.declared.place.Place.{Place}
+use Rattle.tm_derive.specs.declared.place.ThingPlace.{ThingPlace}
 use Rattle.tm_derive.proofs.Children.{child_refused}
 use Rattle.tm_derive.proofs.submodels.children_of.Goals as goal
 
@@ -16,4 +16,4 @@ returns-in_err-child c =
     rw (p.1, p.2)
     (child_refused models above place c.args.links.now c.loop-index.children.items c.loop-index.index c.index-links-index.result c.in_err-child.field-0.0
     c.loop-index-test.true c.index-links-index.is c.loop-index.invariant
-    (subst (λ (ps : List Place). IsRefusal c.in_err-child.field-0.0 (link_faults models above place (segments_of ps) (c.loop-index.index + 1) (kept_link c.index-links-index.result))) c.as_slice.ensures.value c.in_err-child.ensures))
+    (subst (λ (ps : List ThingPlace). IsRefusal c.in_err-child.field-0.0 (link_faults models above place (segments_of ps) (c.loop-index.index + 1) (kept_link c.index-links-index.result))) c.as_slice.ensures.value c.in_err-child.ensures))

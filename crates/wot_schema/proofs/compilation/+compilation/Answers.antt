@@ -3,7 +3,7 @@ use Rattle.wot_json.specs.Tree.{object, nesting, members_of}
 use Rattle.wot_json.specs.Meaning.{json_of}
 use Rattle.wot_json.specs.declared.tree.Tree.{Tree}
 use Rattle.wot_json.proofs.Nesting.{element_nests, member_nests}
-use Rattle.wot_schema.specs.declared.node.Node.{Node}
+use Rattle.wot_schema.specs.declared.node.SchemaNode.{SchemaNode}
 use Rattle.wot_schema.specs.Acceptance.{one_of, items, properties, Asks, Within}
 use Rattle.wot_schema.specs.Nodes.{schema_of, list_of, items_of, properties_of}
 use Rattle.wot_schema.proofs.CompilingSteps.{found_nests, absent_asks, there_asks, there_none, faultless, one_alike, items_each_alike, items_list_alike, free_list_absent, free_named_absent, compiled_alike, named_ok, list_more, named_list_more, list_none, named_none}
@@ -27,7 +27,7 @@ compile_items-item_rule_in-requires t c =
     (omega (arith, found_nests (codes "items") (members_of c.args.members.now) (json_of c.in-Some.tree.now) there), (there_none items (members_of c.args.members.now) (json_of c.in-Some.tree.now) there c.requires))
 
 pub compile_items-returns-in-None : goal.compile_items-returns-in-None
-compile_items-returns-in-None t c = λ v. subst (λ (ns : List Node). Asks items (list_of ns) v ↔ Within items (members_of c.args.members.now) v) (sym c.new.ensures.items) (free_list_absent (members_of c.args.members.now) (rw c.in-None.is at c.value_under.ensures) v)
+compile_items-returns-in-None t c = λ v. subst (λ (ns : List SchemaNode). Asks items (list_of ns) v ↔ Within items (members_of c.args.members.now) v) (sym c.new.ensures.items) (free_list_absent (members_of c.args.members.now) (rw c.in-None.is at c.value_under.ensures) v)
 
 pub compile_items-returns-in-Some : goal.compile_items-returns-in-Some
 compile_items-returns-in-Some t c =
@@ -39,7 +39,7 @@ compile_properties-properties_in-requires t c =
     (omega (arith, found_nests (codes "properties") (members_of c.args.members.now) (json_of c.in-Some.tree.now) there), (there_none properties (members_of c.args.members.now) (json_of c.in-Some.tree.now) there c.requires))
 
 pub compile_properties-returns-in-None : goal.compile_properties-returns-in-None
-compile_properties-returns-in-None t c = λ v. subst (λ (ns : List (List ℕ × Node)). Asks properties (properties_of ns) v ↔ Within properties (members_of c.args.members.now) v) (sym c.new.ensures.items) (free_named_absent (members_of c.args.members.now) (rw c.in-None.is at c.value_under.ensures) v)
+compile_properties-returns-in-None t c = λ v. subst (λ (ns : List (List ℕ × SchemaNode)). Asks properties (properties_of ns) v ↔ Within properties (members_of c.args.members.now) v) (sym c.new.ensures.items) (free_named_absent (members_of c.args.members.now) (rw c.in-None.is at c.value_under.ensures) v)
 
 pub compile_properties-returns-in-Some : goal.compile_properties-returns-in-Some
 compile_properties-returns-in-Some t c =
@@ -52,7 +52,7 @@ alternatives_in-returns-in_ok-compile_list-in-List t c =
 pub item_rule_in-returns-in_ok-boxed-in-Obj : goal.item_rule_in-returns-in_ok-boxed-in-Obj
 item_rule_in-returns-in_ok-boxed-in-Obj t c =
     λ v. rw c.in-Obj.is
-    (subst (λ (n : Node). Asks items (schema_of n) v ↔ Asks items (object (members_of c.in-Obj.schema)) v) (sym c.in_ok-boxed-in-Obj.ensures)
+    (subst (λ (n : SchemaNode). Asks items (schema_of n) v ↔ Asks items (object (members_of c.in-Obj.schema)) v) (sym c.in_ok-boxed-in-Obj.ensures)
     (items_each_alike c.in_ok-node-in-Obj.node (members_of c.in-Obj.schema) c.in_ok-node-in-Obj.ensures v))
 
 pub item_rule_in-returns-in_ok-nodes-in-List : goal.item_rule_in-returns-in_ok-nodes-in-List

@@ -4,7 +4,7 @@ use Rattle.wot_terms.proofs.Findings.{there}
 use Rattle.wot_terms.proofs.Findings.{nowhere}
 use Rattle.wot_terms.specs.Faults.{here, list_of_some}
 use Rattle.wot_terms.specs.Rows.{entry_judge}
-use Rattle.wot_terms.specs.declared.entries.Entry.TheVariants as entry
+use Rattle.wot_terms.specs.declared.entries.EntryRule.TheVariants as entry
 use Rattle.wot_terms.proofs.affordances.forms.Goals as goal
 
 pub returns-in-None : goal.returns-in-None

@@ -1,6 +1,6 @@
 use Rattle.std.proofs.Common.{arith}
 use Rattle.wot_terms.specs.Rows.{entry_judge}
-use Rattle.wot_terms.specs.declared.entries.Entry.TheVariants as entry
+use Rattle.wot_terms.specs.declared.entries.EntryRule.TheVariants as entry
 use Rattle.wot_terms.proofs.Findings.{some_object}
 use Rattle.wot_terms.proofs.rows.definitions.Goals as goal
 

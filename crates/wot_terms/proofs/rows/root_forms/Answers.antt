@@ -3,7 +3,7 @@ use Rattle.wot_json.specs.Meaning.{json_of}
 use Rattle.wot_terms.proofs.Findings.{there}
 use Rattle.wot_terms.specs.Faults.{list_of}
 use Rattle.wot_terms.specs.Rows.{entry_judge}
-use Rattle.wot_terms.specs.declared.entries.Entry.TheVariants as entry
+use Rattle.wot_terms.specs.declared.entries.EntryRule.TheVariants as entry
 use Rattle.wot_terms.proofs.rows.root_forms.Goals as goal
 
 pub returns-in-Some : goal.returns-in-Some

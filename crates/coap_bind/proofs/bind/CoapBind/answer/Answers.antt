@@ -19,16 +19,16 @@ put_outcome-size-requires-clause-room c =
     let P : PendingReply → Type 0 = λ a. HasRoom a c.args.outcome.now c.args.target s in
     let Q : Server → Type 0 = λ u. HasRoom c.args.ticket c.args.outcome.now c.args.target u in
     let room = subst P (sym c.ticket.view_is) (subst Q (sym c.self.view_is) c.requires.room) in
-    let W : Effect → Type 0 = λ e. Watches e p.from p.token s.watchers c.watch-observe.result c.watch-observe.new.self.watchers in
+    let W : Effect → Type 0 = λ e. Watches e p.from p.token s.observers c.watch-observe.result c.watch-observe.new.self.observers in
     let F : Server → Type 0 = λ u. length (spelling (coap_reply (observed c.watch-observe.result (answer_reply p.blocks c.args.outcome.now)) (head_in p) u.next_id)) ≤ LONGEST_MESSAGE in
     subst F (sym (c.keep_body.ensures ∙ ap (λ (u : Server). with_bodies (bodies_after p.blocks p.from c.args.outcome.now u.bodies) u) c.watch-observe.ensures.same))
-    (room c.watch-observe.result c.watch-observe.new.self.watchers (subst W c.effect_of-effect.ensures c.watch-observe.ensures.watches))
+    (room c.watch-observe.result c.watch-observe.new.self.observers (subst W c.effect_of-effect.ensures c.watch-observe.ensures.watches))
 
 pub returns-clause-ok : goal.returns-clause-ok
 returns-clause-ok c =
     let p : PendingReply = c.ticket.inside.pending in
     let s : Server = c.self.inside.server in
-    let W : Effect → Type 0 = λ e. Watches e p.from p.token s.watchers c.watch-observe.result c.watch-observe.new.self.watchers in
+    let W : Effect → Type 0 = λ e. Watches e p.from p.token s.observers c.watch-observe.result c.watch-observe.new.self.observers in
     let r : Reply = observed c.watch-observe.result (answer_reply p.blocks c.args.outcome.now) in
     let u : Server = c.keep_body.new.self in
     let b : List ℕ = spelling (coap_reply r (head_in p) u.next_id) in
@@ -43,7 +43,7 @@ returns-clause-ok c =
       bytes = b;
       answers = record {
         observe = c.watch-observe.result;
-        watchers = c.watch-observe.new.self.watchers;
+        observers = c.watch-observe.new.self.observers;
         watches = subst W c.effect_of-effect.ensures c.watch-observe.ensures.watches;
         replies = subst R (c.keep_body.ensures ∙ ap (λ (x : Server). with_bodies (bodies_after p.blocks p.from c.args.outcome.now x.bodies) x) c.watch-observe.ensures.same) sent;
       };

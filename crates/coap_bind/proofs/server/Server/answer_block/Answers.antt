@@ -14,7 +14,7 @@ pub returns-else-is_links_path : goal.returns-else-is_links_path
 returns-else-is_links_path c = whole c.in-Complete.place c.in-Complete.is (sym c.is_links_path.ensures ∙ c.if-is_links_path.false) refl refl refl
 
 pub returns-in-Continue : goal.returns-in-Continue
-returns-in-Continue c = answered _ _ (ap (added_reply c.args.block) c.in-Continue.is) c.go_on.ensures refl
+returns-in-Continue c = answered _ _ (ap (added_reply c.args.block) c.in-Continue.is) c.reply_continue.ensures refl
 
 pub returns-in-BadBlock : goal.returns-in-BadBlock
 returns-in-BadBlock c = answered _ _ (ap (added_reply c.args.block) c.in-BadBlock.is) c.refuse.ensures refl

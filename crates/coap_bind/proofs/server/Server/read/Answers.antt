@@ -3,8 +3,8 @@ use Rattle.std.proofs.Common.{◌≤◌, length, slice_get, sym, subst, refl}
 use Rattle.std.specs.Prelude.{IfSome}
 use Rattle.coap_msg.specs.MessageOf.{message_of}
 use Rattle.coap_blocks.specs.Parts.{living, longest_request}
-use Rattle.coap_opts.specs.PlainAsk.{plain_ask}
-use Rattle.coap_bind.specs.declared.blocks.Wanted.TheVariants.{Act}
+use Rattle.coap_opts.specs.AskSeen.{ask_seen}
+use Rattle.coap_bind.specs.declared.blocks.BlockWish.TheVariants.{Act}
 use Rattle.coap_bind.specs.declared.pending.PendingReply.{PendingReply}
 use Rattle.coap_bind.specs.declared.server.Server.{Server}
 use Rattle.coap_bind.proofs.ReadingLaws.{no_ticket, reads_fault}
@@ -14,7 +14,7 @@ use Rattle.coap_bind.proofs.server.Server.read.Goals as goal
 
 pub returns-in-Act-clause-ok : goal.returns-in-Act-clause-ok
 returns-in-Act-clause-ok c =
-    let what = plain_ask c.in-Ok.ask in
+    let what = ask_seen c.in-Ok.ask in
     let m = message_of c.args.received.message.now in
     let p : PendingReply = record c.args.pending { observing = c.observing_of-observing.result } in
     let r = is_read c.args.pending c.observing_of-observing.result what m c.requires.head c.in-Ok.ensures.ok.1 c.in-Ok.ensures.ok.0 c.observing_of-observing.ensures in
@@ -22,7 +22,7 @@ returns-in-Act-clause-ok c =
 
 pub returns-in-LaterBlock-clause-ok : goal.returns-in-LaterBlock-clause-ok
 returns-in-LaterBlock-clause-ok c =
-    let what = plain_ask c.in-Ok.ask in
+    let what = ask_seen c.in-Ok.ask in
     let m = message_of c.args.received.message.now in
     let p : PendingReply = record c.args.pending { observing = c.observing_of-observing.result } in
     let r = is_read c.args.pending c.observing_of-observing.result what m c.requires.head c.in-Ok.ensures.ok.1 c.in-Ok.ensures.ok.0 c.observing_of-observing.ensures in
@@ -31,7 +31,7 @@ returns-in-LaterBlock-clause-ok c =
 pub answer_block-requires-clause-whole : goal.answer_block-requires-clause-whole
 answer_block-requires-clause-whole c =
     let p : PendingReply = record c.args.pending { observing = c.observing_of-observing.result } in
-    has_whole (block_of p c.args.received.moment c.args.received.message.now.code c.in-Joining.block (plain_ask c.in-Ok.ask)) (living c.args.received.moment c.args.self.now.parts) c.add-added.new.self c.add-added.result
+    has_whole (block_of p c.args.received.moment c.args.received.message.now.code c.in-Joining.block (ask_seen c.in-Ok.ask)) (living c.args.received.moment c.args.self.now.parts) c.add-added.new.self c.add-added.result
     c.add-added.ensures.joined c.add-added.ensures.place
 
 pub returns-in-Err-clause-ok : goal.returns-in-Err-clause-ok
@@ -44,18 +44,18 @@ returns-in-Err-clause-open c = no_ticket c.args.pending c.in-Err.fault c.refuse_
 pub take_whole-body-requires-clause-room : goal.take_whole-body-requires-clause-room
 take_whole-body-requires-clause-room c =
     let p : PendingReply = record c.args.pending { observing = c.observing_of-observing.result } in
-    let is = whole_found p (plain_ask c.in-Ok.ask).request.path c.in-Joining.block c.add-added.result c.in-Ok-answer_block.place c.answer_block.result _ _ _ _ c.answer_block.ensures c.in-Ok-answer_block.is in
-    let short = (has_whole (block_of p c.args.received.moment c.args.received.message.now.code c.in-Joining.block (plain_ask c.in-Ok.ask)) (living c.args.received.moment c.args.self.now.parts) c.add-added.new.self c.add-added.result
+    let is = whole_found p (ask_seen c.in-Ok.ask).request.path c.in-Joining.block c.add-added.result c.in-Ok-answer_block.place c.answer_block.result _ _ _ _ c.answer_block.ensures c.in-Ok-answer_block.is in
+    let short = (has_whole (block_of p c.args.received.moment c.args.received.message.now.code c.in-Joining.block (ask_seen c.in-Ok.ask)) (living c.args.received.moment c.args.self.now.parts) c.add-added.new.self c.add-added.result
     c.add-added.ensures.joined c.add-added.ensures.place c.in-Ok-answer_block.place is.added_is).1 in
     short_in_room _ longest_request (length c.args.room.now) c.requires.room
     (subst (λ (x : Server). IfSome (slice_get x.parts c.in-Ok-answer_block.place) (λ q. length q.bytes ≤ longest_request)) (sym is.same) short)
 
 pub invariant_of-result : goal.invariant_of-result
-invariant_of-result c = joining_is_block c.args.received.message.now.code c.observing_of-observing.result (plain_ask c.in-Ok.ask) c.in-Joining.block c.in-Ok.ensures.blocks (sym c.in-Joining.ensures)
+invariant_of-result c = joining_is_block c.args.received.message.now.code c.observing_of-observing.result (ask_seen c.in-Ok.ask) c.in-Joining.block c.in-Ok.ensures.blocks (sym c.in-Joining.ensures)
 
 pub returns-in-Ok-answer_block-clause-ok : goal.returns-in-Ok-answer_block-clause-ok
 returns-in-Ok-answer_block-clause-ok c =
-    let what = plain_ask c.in-Ok.ask in
+    let what = ask_seen c.in-Ok.ask in
     let m = message_of c.args.received.message.now in
     let b = c.in-Joining.block in
     let p : PendingReply = record c.args.pending { observing = c.observing_of-observing.result } in
@@ -64,14 +64,14 @@ returns-in-Ok-answer_block-clause-ok c =
     let is = whole_found p what.request.path b c.add-added.result c.in-Ok-answer_block.place c.answer_block.result _ _ _ _ c.answer_block.ensures c.in-Ok-answer_block.is in
     let whole = added_whole p c.args.received.moment what m b c.add-added.result c.in-Ok-answer_block.place _ _ _ _ c.answer_block.new.self added is in (
       _,
-      treat_whole p c.args.received.moment what (plain_ask c.with_body.result) (whole_pending p b) m b c.in-Ok-answer_block.place c.take_whole-body.result.now c.args.self.now c.answer_block.new.self c.take_whole-body.new.self
+      treat_whole p c.args.received.moment what (ask_seen c.with_body.result) (whole_pending p b) m b c.in-Ok-answer_block.place c.take_whole-body.result.now c.args.self.now c.answer_block.new.self c.take_whole-body.new.self
           is.apart refl c.take_whole-body.ensures.bytes c.with_body.ensures c.take_whole-body.ensures.after whole,
       (refl, is.same_bytes),
     )
 
 pub returns-clause-ok : goal.returns-clause-ok
 returns-clause-ok c =
-    let what = plain_ask c.in-Ok.ask in
+    let what = ask_seen c.in-Ok.ask in
     let m = message_of c.args.received.message.now in
     let b = c.in-Joining.block in
     let p : PendingReply = record c.args.pending { observing = c.observing_of-observing.result } in

@@ -24,21 +24,21 @@ met_anew now from id sent kind s t u met later of_type h =
 pub returns-in-Some : goal.returns-in-Some
 returns-in-Some c =
     let a : Arrival = record { moment = c.args.now; from = c.args.from; id = c.args.id; kind = request_type c.args.kind } in
-    let met : Meets (at_moment c.args.now c.args.self.now) a (Repeat c.in-Some.kept) c.go_on.new.self
-    = met_anew c.args.now c.args.from c.args.id c.args.kind c.of-kind.result c.args.self.now c.go_on.new.self c.go_on.new.self (Repeat c.in-Some.kept) c.go_on.ensures c.of-kind.ensures
+    let met : Meets (at_moment c.args.now c.args.self.now) a (Repeat c.in-Some.kept) c.advance_to.new.self
+    = met_anew c.args.now c.args.from c.args.id c.args.kind c.of-kind.result c.args.self.now c.advance_to.new.self c.advance_to.new.self (Repeat c.in-Some.kept) c.advance_to.ensures c.of-kind.ensures
     (c.in-Some.ensures c.of-kind.result, refl) in
     record {
       met = met;
-      moment = moment_after (at_moment c.args.now c.args.self.now) a (Repeat c.in-Some.kept) c.go_on.new.self met;
-      awaited = λ slot e. awaited_after (at_moment c.args.now c.args.self.now) a (Repeat c.in-Some.kept) c.go_on.new.self met slot e;
-      kept = λ slot e. kept_after (at_moment c.args.now c.args.self.now) a (Repeat c.in-Some.kept) c.go_on.new.self met slot e;
+      moment = moment_after (at_moment c.args.now c.args.self.now) a (Repeat c.in-Some.kept) c.advance_to.new.self met;
+      awaited = λ slot e. awaited_after (at_moment c.args.now c.args.self.now) a (Repeat c.in-Some.kept) c.advance_to.new.self met slot e;
+      kept = λ slot e. kept_after (at_moment c.args.now c.args.self.now) a (Repeat c.in-Some.kept) c.advance_to.new.self met slot e;
     }
 
 pub returns-in-Some-admit : goal.returns-in-Some-admit
 returns-in-Some-admit c =
     let a : Arrival = record { moment = c.args.now; from = c.args.from; id = c.args.id; kind = request_type c.args.kind } in
     let met : Meets (at_moment c.args.now c.args.self.now) a (Fresh c.in-Some-admit.slot) c.admit.new.self
-    = met_anew c.args.now c.args.from c.args.id c.args.kind c.of-kind.result c.args.self.now c.go_on.new.self c.admit.new.self (Fresh c.in-Some-admit.slot) c.go_on.ensures c.of-kind.ensures
+    = met_anew c.args.now c.args.from c.args.id c.args.kind c.of-kind.result c.args.self.now c.advance_to.new.self c.admit.new.self (Fresh c.in-Some-admit.slot) c.advance_to.ensures c.of-kind.ensures
     (c.in_default.ensures c.of-kind.result, c.in-Some-admit.ensures) in
     record {
       met = met;
@@ -51,7 +51,7 @@ pub returns-in-None : goal.returns-in-None
 returns-in-None c =
     let a : Arrival = record { moment = c.args.now; from = c.args.from; id = c.args.id; kind = request_type c.args.kind } in
     let met : Meets (at_moment c.args.now c.args.self.now) a Full c.admit.new.self
-    = met_anew c.args.now c.args.from c.args.id c.args.kind c.of-kind.result c.args.self.now c.go_on.new.self c.admit.new.self Full c.go_on.ensures c.of-kind.ensures
+    = met_anew c.args.now c.args.from c.args.id c.args.kind c.of-kind.result c.args.self.now c.advance_to.new.self c.admit.new.self Full c.advance_to.ensures c.of-kind.ensures
     (c.in_default.ensures c.of-kind.result, c.in-None.ensures) in
     record {
       met = met;

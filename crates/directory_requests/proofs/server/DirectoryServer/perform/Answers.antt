@@ -1,5 +1,5 @@
 use Rattle.std.proofs.Common.{subst}
-use Rattle.thing_ops.specs.Requests.{plain_request}
+use Rattle.thing_ops.specs.Requests.{request_seen}
 use Rattle.directory_requests.specs.declared.server.Entries.{Entries}
 use Rattle.directory_requests.specs.Requests.{standing_at, ActsOnStanding}
 use Rattle.directory_requests.proofs.TaskLaws.{refused}
@@ -7,6 +7,6 @@ use Rattle.directory_requests.proofs.server.DirectoryServer.perform.Goals as goa
 
 pub returns-in-Err : goal.returns-in-Err
 returns-in-Err c =
-    subst (λ (x : Entries). ActsOnStanding (plain_request c.args.request.now) c.args.now c.in-Err.outcome (standing_at c.args.now x) c.remove_expired.new.self) c.self.view_is
-    (refused (plain_request c.args.request.now) c.args.now c.in-Err.outcome (standing_at c.args.now c.self.inside.entries) c.remove_expired.new.self c.in-Err.ensures.fault
+    subst (λ (x : Entries). ActsOnStanding (request_seen c.args.request.now) c.args.now c.in-Err.outcome (standing_at c.args.now x) c.remove_expired.new.self) c.self.view_is
+    (refused (request_seen c.args.request.now) c.args.now c.in-Err.outcome (standing_at c.args.now c.self.inside.entries) c.remove_expired.new.self c.in-Err.ensures.fault
     c.remove_expired.ensures)

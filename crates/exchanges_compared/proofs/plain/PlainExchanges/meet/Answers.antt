@@ -13,7 +13,7 @@ returns c =
     let P : Table → Type 0 = λ t. Meets t (record { moment = t.moment; from = c.args.from; id = c.args.id; kind = c.of.result }) c.judge.result c.judge.new.self in
     let Q : RequestType → Type 0 = λ kind.
     Meets (at_moment c.args.now c.args.self.now) (record { moment = c.args.now; from = c.args.from; id = c.args.id; kind = kind }) c.judge.result c.judge.new.self in
-    let met : Meets (at_moment c.args.now c.args.self.now) a c.judge.result c.judge.new.self = subst Q c.of.ensures (subst P c.go_on.ensures c.judge.ensures) in
+    let met : Meets (at_moment c.args.now c.args.self.now) a c.judge.result c.judge.new.self = subst Q c.of.ensures (subst P c.advance_to.ensures c.judge.ensures) in
     record {
       met = met;
       moment = moment_after (at_moment c.args.now c.args.self.now) a c.judge.result c.judge.new.self met;

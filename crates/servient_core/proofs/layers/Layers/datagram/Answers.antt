@@ -1,6 +1,6 @@
 use Rattle.std.proofs.Common.{◌∷◌, [], List, ℕ, refl, subst, arith, ◌∙◌}
 use Rattle.std.specs.Prelude.{Option}
-use Rattle.coap_opts.specs.PlainAsk.{plain_ask}
+use Rattle.coap_opts.specs.AskSeen.{ask_seen}
 use Rattle.coap_bind.specs.Server.{Answers}
 use Rattle.coap_bind.proofs.LengthLaws.{replies_fit}
 use Rattle.servient_outside.specs.declared.net.Act.TheVariants as act
@@ -23,14 +23,14 @@ pub answer-size-requires-clause-code : goal.answer-size-requires-clause-code
 answer-size-requires-clause-code g c =
     let heard = c.in-Ask.ensures.ok in
     (c.perform-outcome.ensures.sendable
-    (asked_short c.args.from c.args.bytes.now c.args.self.now.moment heard.heard c.args.self.now.coap c.datagram.new.self (plain_ask c.in-Ask.ask) c.in-Ask.ticket heard.hears heard.tells.0)).0
+    (asked_short c.args.from c.args.bytes.now c.args.self.now.moment heard.heard c.args.self.now.coap c.datagram.new.self (ask_seen c.in-Ask.ask) c.in-Ask.ticket heard.hears heard.tells.0)).0
 
 pub answer-size-requires-clause-room : goal.answer-size-requires-clause-room
 answer-size-requires-clause-room g c =
     let heard = c.in-Ask.ensures.ok in
     replies_fit c.in-Ask.ticket c.perform-outcome.result _ c.datagram.new.self c.in-Ask.ensures.ticket
     (c.perform-outcome.ensures.sendable
-    (asked_short c.args.from c.args.bytes.now c.args.self.now.moment heard.heard c.args.self.now.coap c.datagram.new.self (plain_ask c.in-Ask.ask) c.in-Ask.ticket heard.hears heard.tells.0)).1
+    (asked_short c.args.from c.args.bytes.now c.args.self.now.moment heard.heard c.args.self.now.coap c.datagram.new.self (ask_seen c.in-Ask.ask) c.in-Ask.ticket heard.hears heard.tells.0)).1
 
 pub returns-in-Nothing : goal.returns-in-Nothing
 returns-in-Nothing g c =
@@ -65,7 +65,7 @@ returns-in-Ask g c =
     let after = g.R.Handlers.slots c.perform-outcome.new.rack in
     let m = g.N.Net.seen c.datagram-in-Ask.new.self in
     record {
-      refines = heard_asked k.exposed.site c.args.from c.args.bytes.now replied.bytes (plain_ask c.in-Ask.ask) c.in-Ask.ticket c.perform-outcome.result
+      refines = heard_asked k.exposed.site c.args.from c.args.bytes.now replied.bytes (ask_seen c.in-Ask.ask) c.in-Ask.ticket c.perform-outcome.result
           k c.deliver.new.self e c.datagram.new.self c.answer-size.new.self (g.N.Net.seen c.args.net.now) m (g.R.Handlers.slots c.args.rack.now) after
           (outside (g.N.Net.seen c.deliver.new.net) after) heard.heard performed
           (omega (arith, c.if-bytes-gt-LONGEST_DATAGRAM.false)) heard.hears heard.tells.0 refl

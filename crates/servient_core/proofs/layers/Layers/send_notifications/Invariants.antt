@@ -6,4 +6,4 @@ abbrev pub invariant-loop-notice : goal.invariant-loop-notice
 invariant-loop-notice g l = Notifying l.initial.self l.self (g.N.Net.seen l.initial.net) (g.N.Net.seen l.net)
 
 abbrev pub decreases-loop-notice : goal.decreases-loop-notice
-decreases-loop-notice g l = unsent l.self.moment l.self.coap.watchers.list
+decreases-loop-notice g l = unsent l.self.moment l.self.coap.observers.list

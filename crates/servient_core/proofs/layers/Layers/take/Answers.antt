@@ -1,6 +1,6 @@
 use Rattle.std.proofs.Common.{◌∙◌, List, ℕ, refl, sym, subst, arith, ap}
 use Rattle.servient_base.specs.Moves.{Each, Refines}
-use Rattle.thing_ops.specs.Requests.{plain_request}
+use Rattle.thing_ops.specs.Requests.{request_seen}
 use Rattle.thing_site.specs.Site.{Site}
 use Rattle.thing_site.specs.Fits.{Fits}
 use Rattle.coap_exchange.specs.Table.{Table}
@@ -21,16 +21,16 @@ returns-in-Idle-clause-left g c = others_keep c.args.c c.args.self.now.http c.ne
 
 pub returns-in-Continue-clause-takes : goal.returns-in-Continue-clause-takes
 returns-in-Continue-clause-takes g c =
-    takes_continue c.args.self.now.exposed.site c.args.c c.args.self.now c.next.new.self c.go_on.new.http (g.N.Net.seen c.args.net.now) (g.N.Net.seen c.go_on.new.net)
-    (g.R.Handlers.slots c.args.rack.now) c.in-Continue.ensures.gives.0 c.go_on.ensures.continued
+    takes_continue c.args.self.now.exposed.site c.args.c c.args.self.now c.next.new.self c.send_continue.new.http (g.N.Net.seen c.args.net.now) (g.N.Net.seen c.send_continue.new.net)
+    (g.R.Handlers.slots c.args.rack.now) c.in-Continue.ensures.gives.0 c.send_continue.ensures.continued
 
 pub returns-in-Continue-clause-left : goal.returns-in-Continue-clause-left
 returns-in-Continue-clause-left g c =
-    others_then c.args.c c.args.self.now.http c.next.new.self c.go_on.new.http (others_keep c.args.c c.args.self.now.http c.next.new.self c.in-Continue.ensures.others)
-    (others_all c.args.c c.next.new.self c.go_on.new.http c.go_on.ensures.left)
+    others_then c.args.c c.args.self.now.http c.next.new.self c.send_continue.new.http (others_keep c.args.c c.args.self.now.http c.next.new.self c.in-Continue.ensures.others)
+    (others_all c.args.c c.next.new.self c.send_continue.new.http c.send_continue.ensures.left)
 
 pub returns-in-Continue-clause-less : goal.returns-in-Continue-clause-less
-returns-in-Continue-clause-less g c = λ more. omega (arith, c.in-Continue.ensures.less, c.go_on.ensures.left c.args.c)
+returns-in-Continue-clause-less g c = λ more. omega (arith, c.in-Continue.ensures.less, c.send_continue.ensures.left c.args.c)
 
 pub returns-in-Refuse-clause-takes : goal.returns-in-Refuse-clause-takes
 returns-in-Refuse-clause-takes g c =
@@ -69,7 +69,7 @@ returns-in-Ask-clause-takes g c =
     let asked = c.in-Ask.ensures.gives in
     let made = c.perform_by_http-outcome.ensures in
     let k = c.args.self.now in
-    let q = plain_request c.in-Ask.request in
+    let q = request_seen c.in-Ask.request in
     let e = c.perform_by_http-outcome.new.exposed in
     let f = c.perform_by_http-outcome.new.directory in
     let before = g.R.Handlers.slots c.args.rack.now in

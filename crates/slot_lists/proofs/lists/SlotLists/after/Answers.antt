@@ -1,7 +1,7 @@
 -- The links lead from a slot to the one after it.
 use Rattle.std.proofs.Common.{◌≡◌, [], ◌∷◌, ◌<◌, ℕ, Option, true, Some, None, IfSome, length, get_or, subst, sym, ap, ◌∙◌}
 use Rattle.std.proofs.lemmas.List.{get_or_read}
-use Rattle.slot_lists.specs.declared.link.Link.{Link}
+use Rattle.slot_lists.specs.declared.link.SlotLink.{SlotLink}
 use Rattle.slot_lists.specs.Lists.{Lists, list_at, is_among, IsIn, from_slot}
 use Rattle.slot_lists.specs.Links.{previous_in, next_in, lists_in, lists_of}
 use Rattle.slot_lists.proofs.Neighbours.{after_leads, after_within}
@@ -12,7 +12,7 @@ pub returns : goal.returns
 returns c =
     let within : c.args.slot < length c.self.inside.links.items = subst (λ n. c.args.slot < n) (sym (ap (λ (t : Lists). t.capacity) c.self.view_is)) c.requires in
     let read : next_in c.self.inside.links.items c.args.slot ≡ c.index.result.now.next
-    = sym (ap (λ (l : Link). l.next) (get_or_read c.self.inside.links.items c.args.slot c.index.result.now within c.index.ensures (record { previous = None; next = None }))) in
+    = sym (ap (λ (l : SlotLink). l.next) (get_or_read c.self.inside.links.items c.args.slot c.index.result.now within c.index.ensures (record { previous = None; next = None }))) in
     let P : Lists → Option ℕ → Type 0 = λ t o. (list : ℕ) → is_among c.args.slot (list_at list t) ≡ true
     → from_slot (Some c.args.slot) (list_at list t) ≡ c.args.slot ∷ from_slot o (list_at list t) in
     let leads : P (lists_of c.self.inside) (next_in c.self.inside.links.items c.args.slot)

@@ -1,7 +1,7 @@
 -- The slot is linked after the last one, and nothing else changes.
 use Rattle.std.proofs.Common.{◌≡◌, ◌∷◌, [], ◌++◌, ◌<◌, ℕ, List, false, Some, None, length, get_or, set, subst, sym, ap, ◌∙◌}
 use Rattle.std.proofs.lemmas.List.{get_or_read, length-map, length-set}
-use Rattle.slot_lists.specs.declared.link.Link.{Link}
+use Rattle.slot_lists.specs.declared.link.SlotLink.{SlotLink}
 use Rattle.slot_lists.specs.declared.link.Ends.{Ends}
 use Rattle.slot_lists.specs.Lists.{Lists, list_at, is_among, IsInNone, with_list}
 use Rattle.slot_lists.specs.Links.{ends_at, ends_with, lists_in, Makes}
@@ -20,7 +20,7 @@ set_next-requires c =
     (last_is_place c.self.inside.links.items c.self.inside.ends.items (lists_in c.self.inside.links.items c.self.inside.ends.items) c.args.list c.self.invariant within z
     (sym (ap (λ (x : Ends). x.last) read) ∙ e)))
 
-made : (links links2 : List Link) (ends : List Ends) (t : Lists) (list slot : ℕ) (x w : Ends)
+made : (links links2 : List SlotLink) (ends : List Ends) (t : Lists) (list slot : ℕ) (x w : Ends)
     → Makes links ends (lists_in links ends) → seen links ends ≡ t → list < length t.lists → slot < t.capacity → IsInNone slot t
     → x ≡ get_or ends list x → w ≡ ends_with slot x → links2 ≡ pushed_links links x.last slot
     → Makes links2 (set ends list w) (set (lists_in links ends) list (get_or (lists_in links ends) list [] ++ slot ∷ []))

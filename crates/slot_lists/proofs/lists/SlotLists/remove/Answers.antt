@@ -1,14 +1,14 @@
 -- The neighbours of the slot are linked to one another, and nothing else changes.
 use Rattle.std.proofs.Common.{◌≡◌, [], ◌<◌, ℕ, List, true, None, length, get_or, set, subst, sym, ap, ◌∙◌, arith}
 use Rattle.std.proofs.lemmas.List.{get_or_read, length-map}
-use Rattle.slot_lists.specs.declared.link.Link.{Link}
+use Rattle.slot_lists.specs.declared.link.SlotLink.{SlotLink}
 use Rattle.slot_lists.specs.declared.link.Ends.{Ends}
 use Rattle.slot_lists.specs.Lists.{Lists, list_at, is_among, with_list, without}
 use Rattle.slot_lists.specs.Links.{link_at, ends_without, lists_in, Makes, with_next, with_previous}
 use Rattle.slot_lists.proofs.Linking.{seen, seen_as, makes_seen, taken_as, if_some_bound, is_below, back_is_place, on_is_place, length-with_next, length-with_previous}
 use Rattle.slot_lists.proofs.lists.SlotLists.remove.Goals as goal
 
-is_place : (links : List Link) (ends : List Ends) (t : Lists) (list slot : ℕ)
+is_place : (links : List SlotLink) (ends : List Ends) (t : Lists) (list slot : ℕ)
     → Makes links ends (lists_in links ends) → seen links ends ≡ t → is_among slot (list_at list t) ≡ true
     → (is_among slot (get_or (lists_in links ends) list []) ≡ true) × (slot < length links)
 is_place links ends t list slot m view has =
@@ -28,7 +28,7 @@ set_next-requires c =
     = get_or_read c.self.inside.links.items c.args.slot c.index-link.result.now place.1 c.index-link.ensures (record { previous = None; next = None }) in
     if_some_bound c.index-link.result.now.previous _ (λ z e.
     back_is_place c.self.inside.links.items c.self.inside.ends.items (lists_in c.self.inside.links.items c.self.inside.ends.items) c.args.list c.args.slot c.self.invariant place.0 z
-    (sym (ap (λ (x : Link). x.previous) read) ∙ e))
+    (sym (ap (λ (x : SlotLink). x.previous) read) ∙ e))
 
 pub set_previous-requires : goal.set_previous-requires
 set_previous-requires c =
@@ -40,9 +40,9 @@ set_previous-requires c =
     if_some_bound c.index-link.result.now.next _ (λ z e.
     subst (λ n. z < n) (sym many)
     (on_is_place c.self.inside.links.items c.self.inside.ends.items (lists_in c.self.inside.links.items c.self.inside.ends.items) c.args.list c.args.slot c.self.invariant place.0 z
-    (sym (ap (λ (x : Link). x.next) read) ∙ e)))
+    (sym (ap (λ (x : SlotLink). x.next) read) ∙ e)))
 
-made : (links links1 links2 : List Link) (ends : List Ends) (t : Lists) (list slot : ℕ) (link : Link) (x w : Ends)
+made : (links links1 links2 : List SlotLink) (ends : List Ends) (t : Lists) (list slot : ℕ) (link : SlotLink) (x w : Ends)
     → Makes links ends (lists_in links ends) → seen links ends ≡ t → list < length t.lists → is_among slot (list_at list t) ≡ true
     → link ≡ get_or links slot link → x ≡ get_or ends list x → w ≡ ends_without link x
     → links1 ≡ with_next link.previous link.next links → links2 ≡ with_previous link.next link.previous links1

@@ -12,7 +12,7 @@ use Rattle.std.specs.Prelude.{◌==◌, ◌&&◌, not, nat_le, ℕ, Bool, false,
 use Rattle.std.specs.Option.{option_map_or}
 use Rattle.std.specs.Str.{bytes_eq}
 use Rattle.std.specs.Str.Parse.{digits_value}
-use Rattle.host_ports.specs.HostPorts.{point_in}
+use Rattle.servient_base.specs.HostPorts.{point_in}
 use Rattle.command_words.specs.Words.{Form, Values, values_given, value_at}
 use Rattle.command_words.specs.Endless.{endless_place, values_around}
 use Rattle.command_words.specs.declared.command.Budget.TheVariants.{Events, Endless}

@@ -2,14 +2,13 @@
 
 ghost use Rattle.std.specs.Prelude.{◌≡◌, ◌≤◌, Some, None, option_and_then};
 ghost use Rattle.std.specs.Option.{option_map_or};
-ghost use Rattle.host_ports.specs.HostPorts.{point_in as point_of};
+ghost use Rattle.servient_base.specs.HostPorts.{point_in as point_of};
 ghost use Rattle.command_words.specs.Grammar.{file_of, is_file_name as names_file, name_of, number_between, operation_of, scheme_of};
 ghost use Rattle.command_words.specs.Parts.{Reads, text_in};
 
 use crate::command::Operation;
 use crate::fault::WordsFault;
-use host_ports::point_in;
-use servient_base::parse_decimal;
+use servient_base::{parse_decimal, point_in};
 use std::alloc::Global;
 use wot_forms::Scheme;
 use wot_json::Text;

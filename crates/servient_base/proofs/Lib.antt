@@ -3,3 +3,4 @@ pub mod DecimalTexts
 pub mod EncodedBytes
 pub mod MovesLaws
 pub mod Pieces
+pub mod PortTexts

@@ -3,3 +3,4 @@ pub mod Encoding
 pub mod Location
 pub mod Moves
 pub mod Writing
+pub mod HostPorts

@@ -30,14 +30,14 @@ use Rattle.servient_outside.specs.Out.{OutSeen, OutShows, NoWriteFailed}
 use Rattle.servient_outside.proofs.ToldLaws.{continues_same, continues_then}
 use Rattle.servient_core.specs.Trace.{at_network, outside}
 use Rattle.servient_core.specs.Sections.{Shown, saw as was_seen, shown_of, section}
-use Rattle.consuming.specs.declared.operation.ThingOperation.{ThingOperation}
-use Rattle.consuming.specs.declared.consumed.Consumed.{Consumed}
-use Rattle.consuming.specs.declared.consumed.Consumed.TheVariants as consumed
-use Rattle.consuming.specs.declared.consumed.ConsumedOutcome.{ConsumedOutcome}
-use Rattle.consuming.specs.Deeds.{happens, prints, sight, put_of}
-use Rattle.consuming.specs.Deeds as operation
-use Rattle.consuming.specs.Consuming.{Consumes}
-use Rattle.consuming.proofs.DeedLaws.{out_none}
+use Rattle.network_consumer.specs.declared.operation.ThingOperation.{ThingOperation}
+use Rattle.network_consumer.specs.declared.consumed.Consumed.{Consumed}
+use Rattle.network_consumer.specs.declared.consumed.Consumed.TheVariants as consumed
+use Rattle.network_consumer.specs.declared.consumed.ConsumedOutcome.{ConsumedOutcome}
+use Rattle.network_consumer.specs.Deeds.{happens, prints, sight, put_of}
+use Rattle.network_consumer.specs.Deeds as operation
+use Rattle.network_consumer.specs.Consuming.{Consumes}
+use Rattle.network_consumer.proofs.DeedLaws.{out_none}
 use Rattle.servient_cli.specs.declared.ending.Ending.{Ending}
 use Rattle.servient_cli.specs.declared.ending.Ended.{Ended}
 use Rattle.servient_cli.specs.declared.ending.Ended.TheVariants as ended

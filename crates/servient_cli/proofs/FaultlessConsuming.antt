@@ -16,13 +16,13 @@ use Rattle.command_words.specs.Operations.{form_operation}
 use Rattle.command_words.specs.declared.command.Consumption.{Consumption}
 use Rattle.servient_outside.specs.declared.files.HeldFile.{HeldFile}
 use Rattle.servient_outside.specs.Network.{heard, did, broke}
-use Rattle.consuming.specs.declared.consumed.Consumed.{Consumed}
-use Rattle.consuming.specs.declared.consumed.Consumed.TheVariants as consumed
-use Rattle.consuming.specs.declared.operation.ThingOperation.{ThingOperation}
-use Rattle.consuming.specs.Deeds.{happens, prints}
-use Rattle.consuming.specs.Deeds as operation
-use Rattle.consuming.specs.Consuming.{Consumes, Discovers}
-use Rattle.consuming.proofs.FailureLaws.{Breaks, failing_breaks, discovering_breaks}
+use Rattle.network_consumer.specs.declared.consumed.Consumed.{Consumed}
+use Rattle.network_consumer.specs.declared.consumed.Consumed.TheVariants as consumed
+use Rattle.network_consumer.specs.declared.operation.ThingOperation.{ThingOperation}
+use Rattle.network_consumer.specs.Deeds.{happens, prints}
+use Rattle.network_consumer.specs.Deeds as operation
+use Rattle.network_consumer.specs.Consuming.{Consumes, Discovers}
+use Rattle.network_consumer.proofs.FailureLaws.{Breaks, failing_breaks, discovering_breaks}
 use Rattle.servient_cli.specs.Stages.{Deed, Outcome, ends, did_write}
 use Rattle.servient_cli.specs.Reading.{ReadsFile, ReadsTree, longest_json}
 use Rattle.servient_cli.specs.Consuming.{TakesDescription, is_taken, has_fault, description_memory, DescriptionIn, ReadsDescription, ReadsValue, HasInput, has_input, has_no_input, ReadsInput, Chooses, is_chosen, has_no_affordance, has_no_form, choose_memory, deeds_of, status_after, line_after, EndsAfter, has_ended, line_memory, IsOperated, Operates, OperatesOn, ConsumesBy, ConsumesThing}

@@ -17,16 +17,16 @@ use Rattle.servient_outside.specs.declared.out.Put.{Put}
 use Rattle.servient_outside.specs.declared.out.Put.TheVariants as put
 use Rattle.servient_outside.specs.Out.{OutSeen, OutShows}
 use Rattle.servient_core.specs.Trace.{at_network}
-use Rattle.consuming.specs.declared.operation.ThingOperation.{ThingOperation}
-use Rattle.consuming.specs.declared.consumed.Consumed.{Consumed}
-use Rattle.consuming.specs.declared.consumed.Consumed.TheVariants as consumed
-use Rattle.consuming.specs.declared.consumed.ConsumedOutcome.{ConsumedOutcome}
-use Rattle.consuming.specs.declared.consumed.ConsumedOutcome.TheVariants as outcome
-use Rattle.consuming.specs.declared.consumed.Status.{Status}
-use Rattle.consuming.specs.declared.consumed.Status.TheVariants as status
-use Rattle.consuming.specs.Deeds.{happens, prints}
-use Rattle.consuming.specs.Deeds as operation
-use Rattle.consuming.specs.Consuming.{Consumes}
+use Rattle.network_consumer.specs.declared.operation.ThingOperation.{ThingOperation}
+use Rattle.network_consumer.specs.declared.consumed.Consumed.{Consumed}
+use Rattle.network_consumer.specs.declared.consumed.Consumed.TheVariants as consumed
+use Rattle.network_consumer.specs.declared.consumed.ConsumedOutcome.{ConsumedOutcome}
+use Rattle.network_consumer.specs.declared.consumed.ConsumedOutcome.TheVariants as outcome
+use Rattle.network_consumer.specs.declared.consumed.Status.{Status}
+use Rattle.network_consumer.specs.declared.consumed.Status.TheVariants as status
+use Rattle.network_consumer.specs.Deeds.{happens, prints}
+use Rattle.network_consumer.specs.Deeds as operation
+use Rattle.network_consumer.specs.Consuming.{Consumes}
 use Rattle.servient_cli.specs.declared.ending.Ending.{Ending}
 use Rattle.servient_cli.specs.declared.ending.Ended.{Ended}
 use Rattle.servient_cli.specs.Lines.{invalid_line, memory_line, network_line, no_affordance_line, no_form_line, silent_line, spent_line}

@@ -2,7 +2,7 @@
 -- they lead are written, one a line, and then comes the line on how it ended, if it wasn't done. No file is read.
 use Rattle.std.specs.Prelude.{ℕ, List}
 use Rattle.wot_consumer.specs.Discovery.{links_of}
-use Rattle.consuming.specs.Consuming.{Discovers}
+use Rattle.network_consumer.specs.Consuming.{Discovers}
 use Rattle.servient_cli.specs.Stages.{Deed, Outcome}
 use Rattle.servient_cli.specs.Consuming.{EndsAfter}
 

@@ -10,7 +10,7 @@ ghost use Rattle.servient_cli.specs.Discovering.{DiscoversThings};
 
 use crate::consumption::end_of;
 use crate::ending::{Ended, Ending};
-use consuming::discover;
+use network_consumer::discover;
 use servient_outside::{Net, Out};
 use std::alloc::Global;
 

@@ -7,7 +7,7 @@ ghost use Rattle.servient_cli.specs.Lines.{file_line, input_line, invalid_line, 
 
 use crate::print::put_number;
 use command_words::WordsFault;
-use consuming::{Consumed, ConsumedOutcome, Status};
+use network_consumer::{Consumed, ConsumedOutcome, Status};
 use std::alloc::Global;
 use wot_json::{Bytes, NoMemory, quoted};
 

@@ -26,12 +26,12 @@ use Rattle.servient_outside.specs.Network.{heard, did, broke, next_event, break_
 use Rattle.servient_outside.specs.Out.{OutSeen}
 use Rattle.servient_plan.specs.declared.plan.Plan.{Plan}
 use Rattle.servient_plan.specs.Plan.{place_of}
-use Rattle.consuming.specs.declared.consumed.Consumed.{Consumed}
-use Rattle.consuming.specs.declared.consumed.Consumed.TheVariants as consumed
-use Rattle.consuming.specs.Deeds.{happens, prints}
-use Rattle.consuming.specs.Deeds as operation
-use Rattle.consuming.specs.Consuming.{Discovers}
-use Rattle.consuming.proofs.FailureLaws.{failing_breaks_the_network}
+use Rattle.network_consumer.specs.declared.consumed.Consumed.{Consumed}
+use Rattle.network_consumer.specs.declared.consumed.Consumed.TheVariants as consumed
+use Rattle.network_consumer.specs.Deeds.{happens, prints}
+use Rattle.network_consumer.specs.Deeds as operation
+use Rattle.network_consumer.specs.Consuming.{Discovers}
+use Rattle.network_consumer.proofs.FailureLaws.{failing_breaks_the_network}
 use Rattle.servient_core.specs.declared.serving.Served.TheVariants as served
 use Rattle.servient_core.specs.Trace.{Sighting, at_network, at_handler, happened_in}
 use Rattle.servient_core.specs.Machine.{Site}

@@ -5,7 +5,7 @@ use Rattle.std.specs.List.{starts_with}
 use Rattle.std.proofs.lemmas.Bool.{cases_Bool}
 use Rattle.std.proofs.lemmas.Bool.Decides.{Decides-eqb}
 use Rattle.std.proofs.lemmas.Slice.Eq.{starts_is}
-use Rattle.host_ports.specs.HostPorts.{point_in}
+use Rattle.servient_base.specs.HostPorts.{point_in}
 use Rattle.servient_plan.specs.Plan.{base_point}
 
 -- a text that begins with a scheme, and one that doesn't

@@ -4,7 +4,7 @@
 use Rattle.std.specs.Prelude.{◌≡◌, ◌≤◌, ℕ, pos, ◌==◌, ◌&&◌, ◌||◌, not, nat_le, nat_lt, Bool, true, false, List, [], ◌∷◌, ◌++◌, length, drop, codes, Option, Some, None, is_some, IfSome, unwrap_or, option_map, option_and_then, Result, Ok, Err, if◌then◌else◌}
 use Rattle.std.specs.List.{list_all, starts_with}
 use Rattle.std.specs.Str.{bytes_eq}
-use Rattle.host_ports.specs.HostPorts.{point_in}
+use Rattle.servient_base.specs.HostPorts.{point_in}
 use Rattle.wot_json.specs.Tree.{Json, integer, string, array, object, Elements, no_elements, element}
 use Rattle.wot_json.specs.Lookup.{member_list, member_named}
 use Rattle.wot_json.specs.Merge.{members_under}

@@ -5,7 +5,7 @@ ghost use Rattle.std.specs.List.{list_all};
 ghost use Rattle.tm_derive.specs.Submodels as submodels;
 ghost use Rattle.servient_plan.specs.Plan as spec;
 
-use host_ports::point_in;
+use servient_base::point_in;
 
 /// The most bytes of the segment of the root.
 const MOST_SEGMENT: usize = 64;

@@ -1,5 +1,5 @@
 use Rattle.std.proofs.Common.{Err, subst, sym}
-use Rattle.consuming.specs.declared.consumed.Consumed.{Consumed}
+use Rattle.network_consumer.specs.declared.consumed.Consumed.{Consumed}
 use Rattle.servient_cli.specs.Consuming.{IsEndOf}
 use Rattle.servient_cli.proofs.ConsumingStages.{outcome_ends}
 use Rattle.servient_cli.proofs.consumption.end_of.Goals as goal

@@ -1,5 +1,5 @@
 use Rattle.wot_consumer.specs.Discovery.{links_of}
-use Rattle.consuming.specs.Consuming.{Discovers}
+use Rattle.network_consumer.specs.Consuming.{Discovers}
 use Rattle.servient_cli.proofs.ConsumingStages.{asked_others}
 use Rattle.servient_cli.proofs.discovery.discover_things.Goals as goal
 

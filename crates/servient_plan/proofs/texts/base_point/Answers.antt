@@ -1,6 +1,6 @@
 use Rattle.std.proofs.Common.{◌≡◌, ℕ, List, ◌++◌, drop, length, subst, ◌∙◌, ap, sym}
 use Rattle.std.specs.Prelude.{Option, Some, None, MatchOption}
-use Rattle.host_ports.specs.HostPorts.{point_in}
+use Rattle.servient_base.specs.HostPorts.{point_in}
 use Rattle.servient_plan.proofs.PlanTexts.{base_is_point, no_base}
 use Rattle.servient_plan.proofs.texts.base_point.Goals as goal
 

@@ -1,8 +1,0 @@
--- The reply fits.
-use Rattle.thing_ops.specs.declared.outcome.Outcome.TheVariants.{Empty}
-use Rattle.coap_bind.proofs.LengthLaws.{replies_fit}
-use Rattle.bindings_tables.proofs.crowds.registers.Goals as goal
-
-pub answer-size-requires-clause-room : goal.answer-size-requires-clause-room
-answer-size-requires-clause-room c =
-    replies_fit c.in-Ask.ticket Empty _ c.datagram.new.self c.in-Ask.ensures.ticket tt

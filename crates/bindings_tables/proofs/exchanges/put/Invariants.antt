@@ -1,6 +1,0 @@
--- the table's moment is not past the moment so far
-use Rattle.std.proofs.Common.{◌≤◌}
-use Rattle.bindings_tables.proofs.exchanges.put.Given as goal
-
-abbrev pub invariant-loop-line : goal.invariant-loop-line
-invariant-loop-line l = l.exchanges.moment ≤ l.now

@@ -1,6 +1,0 @@
--- the server's moment is not past this one
-use Rattle.std.proofs.Common.{◌≤◌}
-use Rattle.bindings_tables.proofs.transfers.are_joined.Given as goal
-
-abbrev pub invariant-loop-number : goal.invariant-loop-number
-invariant-loop-number l = l.server.exchanges.moment ≤ l.fn.origin.now

@@ -1,7 +1,0 @@
--- The reply to an outcome with a short place fits.
-use Rattle.coap_bind.proofs.LengthLaws.{replies_fit}
-use Rattle.bindings_tables.proofs.transfers.replied.Goals as goal
-
-pub answer-requires-clause-room : goal.answer-requires-clause-room
-answer-requires-clause-room c =
-    replies_fit c.in-Ask.ticket c.args.outcome.now _ c.datagram.new.self c.in-Ask.ensures.ticket c.requires.place

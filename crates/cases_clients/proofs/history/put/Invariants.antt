@@ -1,0 +1,6 @@
+-- the client's moment is not past the moment so far
+use Rattle.std.proofs.Common.{◌≤◌}
+use Rattle.cases_clients.proofs.history.put.Given as goal
+
+abbrev pub invariant-loop-line : goal.invariant-loop-line
+invariant-loop-line l = l.client.moment ≤ l.now

@@ -1,0 +1,243 @@
+//! Histories of one device.
+
+use crate::readings::Readings;
+use cases_notation::bytes_of;
+use file_devices::{DeviceEntry, DeviceFilesMemory, Notation, SlotHandler, file_handler};
+use servient_outside::{Calls, Held, HeldFile};
+use std::alloc::{AllocError, Global};
+use std::fmt::Write;
+use std::str;
+use thing_handler::{Answer, CallKind, Handler, Kind};
+use wot_json::{Bytes, Text, Tree, read, text_of};
+
+/// The longest text of a value that is written whole.
+const LONGEST_WRITTEN: usize = 100;
+
+/// The setting of a device in its history.
+#[derive(Drop)]
+struct Before {
+    files: Held,
+    fails: Calls,
+    contents: Vec<Bytes>,
+}
+
+/// A device and the number of its next turn.
+#[derive(Drop)]
+struct Device {
+    handler: SlotHandler<Readings>,
+    turn: u64,
+}
+
+/// A content, in which `\n` is a line end.
+fn content_of(alloc: Global, text: &str) -> Result<Bytes, AllocError> {
+    let mut content = Bytes::new(alloc);
+    for (place, line) in text.split("\\n").enumerate() {
+        if place > 0 {
+            content.push(b'\n')?;
+        }
+        content.extend(bytes_of(alloc, line)?.as_slice())?;
+    }
+    Ok(content)
+}
+
+impl Before {
+    /// Takes a line that says a part of the setting.
+    fn take(&mut self, alloc: Global, line: &str) -> Result<(), AllocError> {
+        match line.split_once(' ') {
+            Some(("file", rest)) => {
+                let (name, content) = rest.split_once(' ').unwrap_or((rest, ""));
+                self.files.push(HeldFile {
+                    name: Text::copy_of(alloc, name)?,
+                    bytes: content_of(alloc, content)?,
+                })
+            }
+            Some(("reading", content)) => {
+                self.contents.push(content_of(alloc, content)?)?;
+                Ok(())
+            }
+            Some(("fails", number)) => self.fails.push(number.parse::<u64>().unwrap_or(0)),
+            _ => Ok(()),
+        }
+    }
+}
+
+/// The kind of a device of this word.
+fn kind_of(word: &str) -> Option<Kind> {
+    match word {
+        "property" => Some(Kind::Property),
+        "action" => Some(Kind::Action),
+        "event" => Some(Kind::Event),
+        _ => None,
+    }
+}
+
+/// The device of a line, if it is one's.
+fn device_of(alloc: Global, before: Before, kind: Kind, rest: &str) -> Result<Device, AllocError> {
+    let (name, notation) = rest.split_once(' ').unwrap_or((rest, "json"));
+    let entry = DeviceEntry {
+        slot: 0,
+        kind,
+        path: Text::copy_of(alloc, name)?,
+        notation: match notation {
+            "text" => Notation::Text,
+            _ => Notation::Json,
+        },
+    };
+    let Before {
+        files,
+        fails,
+        contents,
+    } = before;
+    let files = Readings {
+        files: DeviceFilesMemory::new(files, fails),
+        contents,
+        made: 0,
+    };
+    let handler = file_handler(alloc, files, &entry)?;
+    Ok(Device { handler, turn: 0 })
+}
+
+/// The value of a JSON text.
+fn value_of(alloc: Global, text: &str) -> Result<Tree, AllocError> {
+    let bytes = bytes_of(alloc, text)?;
+    match read(alloc, bytes.as_slice()) {
+        Ok(value) => Ok(value),
+        Err(_) => Ok(Tree::Null),
+    }
+}
+
+/// The call of a step.
+fn call_of(alloc: Global, step: &str) -> Result<Option<CallKind>, AllocError> {
+    let (word, rest) = step.split_once(' ').unwrap_or((step, ""));
+    Ok(match word {
+        "read" => Some(CallKind::Read),
+        "write" => Some(CallKind::Write(value_of(alloc, rest)?)),
+        "invoke" if rest.is_empty() => Some(CallKind::Invoke(1, None)),
+        "invoke" => Some(CallKind::Invoke(1, Some(value_of(alloc, rest)?))),
+        "query" => Some(CallKind::Query(1)),
+        "cancel" => Some(CallKind::Cancel(1)),
+        "poll" => Some(CallKind::Poll),
+        _ => None,
+    })
+}
+
+/// Writes a value behind a word.
+fn put_value(text: &mut String, alloc: Global, word: &str, value: &Tree) -> Result<(), AllocError> {
+    let value = text_of(alloc, value)?;
+    if value.len() > LONGEST_WRITTEN {
+        return write!(text, "{word} of {} bytes", value.len());
+    }
+    let value = str::from_utf8(value.as_slice()).unwrap_or("no text");
+    write!(text, "{word} {value}")
+}
+
+/// Writes an answer.
+fn put_answer(text: &mut String, alloc: Global, answer: &Answer) -> Result<(), AllocError> {
+    match answer {
+        Answer::Value(value) => put_value(text, alloc, "value", value),
+        Answer::Fired(value) => put_value(text, alloc, "fired", value),
+        Answer::Done => text.push_str("done"),
+        Answer::Finished(_) => text.push_str("finished"),
+        Answer::Quiet => text.push_str("quiet"),
+        Answer::Refused(number) => write!(text, "refused {number}"),
+        Answer::DeviceFault(number) => write!(text, "fault {number}"),
+        Answer::Started | Answer::Running | Answer::Cancelled => text.push_str("other"),
+    }
+}
+
+/// Writes the content of a file.
+fn put_content(text: &mut String, device: &Device, name: &str) -> Result<(), AllocError> {
+    let Some(files) = device.handler.files() else {
+        return text.push_str("no files");
+    };
+    for file in files.files.files() {
+        if file.name.as_str() == name {
+            return text.push_str(str::from_utf8(file.bytes.as_slice()).unwrap_or("no text"));
+        }
+    }
+    text.push_str("no file")
+}
+
+/// Makes a step, and writes what comes of it.
+fn put_step(
+    text: &mut String,
+    alloc: Global,
+    device: &mut Device,
+    step: &str,
+) -> Result<(), AllocError> {
+    if let Some(("content", name)) = step.split_once(' ') {
+        return put_content(text, device, name);
+    }
+    let Some(what) = call_of(alloc, step)? else {
+        return text.push_str("no such step");
+    };
+    let answer = device.handler.call(alloc, device.turn, &what)?;
+    device.turn = device.turn.saturating_add(1);
+    put_answer(text, alloc, &answer)
+}
+
+/// The device of a history.
+fn device_in(alloc: Global, block: &str) -> Result<Option<Device>, AllocError> {
+    let mut before = Before {
+        files: Held::new(alloc),
+        fails: Calls::new(alloc),
+        contents: Vec::new(alloc),
+    };
+    for line in block.lines() {
+        let (word, rest) = line.split_once(' ').unwrap_or((line, ""));
+        if let Some(kind) = kind_of(word) {
+            return Ok(Some(device_of(alloc, before, kind, rest)?));
+        }
+        before.take(alloc, line)?;
+    }
+    Ok(None)
+}
+
+/// Writes the lines of a history that are no steps.
+fn put_setting(text: &mut String, block: &str) -> Result<(), AllocError> {
+    for line in block.lines() {
+        if line.split_once(" => ").is_none() {
+            text.push_str(line)?;
+            text.push_str("\n")?;
+        }
+    }
+    Ok(())
+}
+
+/// Writes the steps of a history, each with what comes of it.
+fn put_steps(
+    text: &mut String,
+    alloc: Global,
+    device: &mut Device,
+    block: &str,
+) -> Result<(), AllocError> {
+    for line in block.lines() {
+        if let Some((step, _wanted)) = line.split_once(" => ") {
+            text.push_str(step)?;
+            text.push_str(" => ")?;
+            put_step(text, alloc, device, step)?;
+            text.push_str("\n")?;
+        }
+    }
+    Ok(())
+}
+
+/// Writes a history with what comes of its steps.
+fn put_history(text: &mut String, alloc: Global, block: &str) -> Result<(), AllocError> {
+    put_setting(text, block)?;
+    match device_in(alloc, block)? {
+        Some(mut device) => put_steps(text, alloc, &mut device, block),
+        None => Ok(()),
+    }
+}
+
+/// Writes the histories of a file, each with what comes of it.
+pub fn put_histories(text: &mut String, alloc: Global, lines: &str) -> Result<(), AllocError> {
+    for (place, block) in lines.split("\n\n").enumerate() {
+        if place > 0 {
+            text.push_str("\n")?;
+        }
+        put_history(text, alloc, block)?;
+    }
+    Ok(())
+}

@@ -1,0 +1,7 @@
+-- the rack fits, and all emissions were handed out
+use Rattle.std.proofs.Common.{◌≡◌, []}
+use Rattle.thing_site.specs.Fits.{Fits}
+use Rattle.cases_things.proofs.histories.put_repeated.Given as goal
+
+abbrev pub invariant-loop-time : goal.invariant-loop-time
+invariant-loop-time g l = Fits l.exposed.site (g.R.Handlers.slots l.rack) × (l.exposed.pending ≡ [])

@@ -1,6 +1,0 @@
--- the client's moment isn't past this one
-use Rattle.std.proofs.Common.{◌≤◌}
-use Rattle.clients_tables.proofs.resetting.counts_of.Given as goal
-
-abbrev pub invariant-loop-time : goal.invariant-loop-time
-invariant-loop-time l = l.client.moment ≤ l.now

@@ -1,6 +1,0 @@
-use Rattle.consuming.specs.Deeds.{sight}
-use Rattle.consuming.proofs.AskingLaws.{client_memory}
-use Rattle.consuming.proofs.coap_asking.make_client.Goals as goal
-
-pub returns-in-Err : goal.returns-in-Err
-returns-in-Err g c = client_memory _ _ _ (sight (g.N.Net.seen c.args.net.now) (g.O.Out.seen c.args.out.now))

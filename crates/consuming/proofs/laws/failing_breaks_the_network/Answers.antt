@@ -1,6 +1,0 @@
--- The law is a lemma.
-use Rattle.consuming.proofs.FailureLaws.{failing_breaks_the_network}
-use Rattle.consuming.proofs.laws.failing_breaks_the_network.Goals as goal
-
-pub returns : goal.returns
-returns c = failing_breaks_the_network

@@ -1,8 +1,0 @@
-//! Laws over whole operations.
-
-ghost use Rattle.consuming.specs.Failing.{FailingBreaksTheNetwork};
-
-/// A call of the network failed in each operation that ended so.
-pub fn failing_breaks_the_network()
-    ensures { FailingBreaksTheNetwork }
-{}

@@ -1,6 +1,0 @@
--- the table's moment stays 0
-use Rattle.std.proofs.Common.{◌≤◌}
-use Rattle.exchange_rows.proofs.storm.send_all.Given as goal
-
-abbrev pub invariant-loop-id : goal.invariant-loop-id
-invariant-loop-id l = l.exchanges.moment ≤ 0

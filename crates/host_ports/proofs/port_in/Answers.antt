@@ -1,6 +1,0 @@
-use Rattle.std.proofs.Common.{arith}
-use Rattle.host_ports.proofs.PortTexts.{port_is}
-use Rattle.host_ports.proofs.port_in.Goals as goal
-
-pub returns-in-Some : goal.returns-in-Some
-returns-in-Some c = port_is c.args.text.now c.in-Some.port (omega arith) (omega (arith, c.in-Some.ensures.ok.1, c.from.ensures)) c.in-Some.ensures.ok.0

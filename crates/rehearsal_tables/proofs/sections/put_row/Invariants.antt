@@ -1,6 +1,0 @@
--- one device for each slot so far
-use Rattle.std.proofs.Common.{◌≡◌, vec_len}
-use Rattle.rehearsal_tables.proofs.sections.put_row.Given as goal
-
-abbrev pub invariant-loop-slot : goal.invariant-loop-slot
-invariant-loop-slot l = vec_len l.list ≡ l.slot

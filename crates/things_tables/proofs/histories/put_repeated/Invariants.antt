@@ -1,7 +1,0 @@
--- the rack fits, and all emissions were handed out
-use Rattle.std.proofs.Common.{◌≡◌, []}
-use Rattle.thing_site.specs.Fits.{Fits}
-use Rattle.things_tables.proofs.histories.put_repeated.Given as goal
-
-abbrev pub invariant-loop-time : goal.invariant-loop-time
-invariant-loop-time g l = Fits l.exposed.site (g.R.Handlers.slots l.rack) × (l.exposed.pending ≡ [])

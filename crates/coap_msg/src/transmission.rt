@@ -6,8 +6,8 @@ ghost use Rattle.coap_msg.specs.Transmission.{first_timeout};
 /// The number of times that a Confirmable message is sent again before it is given up (MAX_RETRANSMIT).
 pub const MOST_RETRANSMISSIONS: u8 = 4;
 
-/// The time for which the message ID of a Confirmable message may be in use, in milliseconds (EXCHANGE_LIFETIME, RFC
-/// 7252, section 4.8.2).
+/// The time for which the message ID of a Confirmable message may be in use, in milliseconds (EXCHANGE_LIFETIME, RFC 7252,
+/// section 4.8.2).
 pub const EXCHANGE_LIFETIME: u64 = 247_000;
 
 /// The time for which that of a Non-confirmable message may be in use, in milliseconds (NON_LIFETIME).

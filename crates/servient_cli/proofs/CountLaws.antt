@@ -10,7 +10,7 @@ use Rattle.thing_handler.specs.Handler.{Seen}
 use Rattle.thing_handler.specs.Turns.{RunTurn, HandlerCall, turns_of_slot, turns_in, GrewBy, RackShows}
 use Rattle.servient_outside.specs.declared.net.EventWithBytes.{EventWithBytes}
 use Rattle.servient_cli.specs.Counting.{is_datagram, came, turns_kept}
-use Rattle.servient_cli.proofs.MergeLaws.{first_is, first_is_not}
+use Rattle.servient_script.proofs.MergeLaws.{first_is, first_is_not}
 
 -- one slot more
 pub kept_more : (slots : List Seen) (i : ℕ) (kept : List Turn) → i < length slots → IfSome (slice_get slots i) (λ h. kept ≡ h.turns) → turns_kept (take (suc i) slots) ≡ turns_kept (take i slots) + length kept

@@ -25,9 +25,10 @@ use Rattle.servient_core.specs.Trace.{at_network, at_handler, happened_in}
 use Rattle.servient_core.specs.Machine.{Site}
 use Rattle.servient_cli.specs.declared.derivation.Planned.{Planned}
 use Rattle.servient_cli.specs.declared.replay.Inputs.{Inputs}
-use Rattle.servient_cli.specs.Script.{IsScript}
+use Rattle.servient_script.specs.Script.{IsScript}
 use Rattle.servient_cli.specs.Stages.{Deed, did_read, did_fail, did_see, did_forget, did_write, sightings_in, HasFailed, Outcome, goes_on, ends, AndThen, ends_first, goes_further}
-use Rattle.servient_cli.specs.Reading.{ReadsFile, is_read, is_absent, is_unreadable, is_long, file_memory, ReadsTree, is_tree, has_no_tree, tree_memory, longest_json, longest_script}
+use Rattle.servient_cli.specs.Reading.{ReadsFile, is_read, is_absent, is_unreadable, is_long, file_memory, ReadsTree, is_tree, has_no_tree, tree_memory, longest_json}
+use Rattle.servient_script.specs.Script.{longest_script}
 use Rattle.servient_cli.specs.Replaying.{built_in, Plans, is_built_in, built_in_memory, ReadsEvents, ReadsInputs, HasRead, has_read, ReadsScript, is_script, is_no_script, script_memory, run_events, RunsOn, RunsScript, is_whole, is_spent, run_memory}
 use Rattle.servient_cli.specs.Opening.{Exposes, is_exposed, is_misfit, expose_memory, Opens}
 use Rattle.servient_cli.specs.Checking.{Judges, is_valid, is_refused, judge_memory}

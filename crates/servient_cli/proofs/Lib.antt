@@ -1,8 +1,3 @@
-mod HexTexts
-mod FieldTexts
-mod LineTexts
-mod EventFields
-mod ScriptTexts
 pub mod StageLaws
 mod FaultlessStages
 mod ServedStages
@@ -13,5 +8,4 @@ mod RunLaws
 mod ModelStages
 mod CountLaws
 mod StormStages
-mod MergeLaws
 mod FaultlessConsuming

@@ -20,8 +20,8 @@ use Rattle.servient_core.specs.Trace.{Sighting, happened_in, calls_in, Outside, 
 use Rattle.servient_core.specs.Machine.{Site, State, Run}
 use Rattle.servient_core.specs.Serving.{StandsFor, HasNoStop, AreTaken, Serves}
 use Rattle.servient_core.proofs.MachineLaws.{run_keeps}
-use Rattle.servient_cli.specs.Print.{print_text}
-use Rattle.servient_cli.specs.Script.{StopsAtEnd, has_stop, is_stop}
+use Rattle.servient_script.specs.Print.{print_text}
+use Rattle.servient_script.specs.Script.{StopsAtEnd, has_stop, is_stop}
 use Rattle.servient_cli.specs.Replaying.{run_events}
 
 -- ---- the events of a run

@@ -30,7 +30,7 @@ use Rattle.servient_cli.specs.declared.derivation.Planned.{Planned}
 use Rattle.servient_cli.specs.declared.storming.TheConstants.{STORM_EXCHANGES}
 use Rattle.servient_cli.specs.declared.storming.Load.{Load}
 use Rattle.servient_cli.specs.Counting.{is_datagram, came, counts_by, counts_in}
-use Rattle.servient_cli.specs.Script.{has_stop, is_stop, StopsAtEnd}
+use Rattle.servient_script.specs.Script.{has_stop, is_stop, StopsAtEnd}
 use Rattle.servient_cli.specs.Stages.{Around, Deed, Outcome, goes_on, ends, AndThen, ends_first, goes_further}
 use Rattle.servient_cli.specs.Replaying.{run_events, TakesBuiltIn, is_built_in, built_in_memory, built_in, plan_name}
 use Rattle.servient_cli.specs.Opening.{Exposes, is_exposed, is_misfit, expose_memory, Opens}

@@ -19,7 +19,8 @@ use Rattle.servient_cli.specs.declared.replay.Inputs.{Inputs}
 use Rattle.servient_outside.specs.declared.files.HeldFile.{HeldFile}
 use Rattle.servient_outside.specs.declared.net.EventWithBytes.{EventWithBytes}
 use Rattle.servient_cli.specs.Stages.{Around, Deed, Outcome, goes_on, ends, AndThen, ends_first, goes_further}
-use Rattle.servient_cli.specs.Reading.{ReadsFile, is_read, is_absent, is_unreadable, is_long, file_memory, ReadsTree, is_tree, has_no_tree, tree_memory, longest_json, longest_script}
+use Rattle.servient_cli.specs.Reading.{ReadsFile, is_read, is_absent, is_unreadable, is_long, file_memory, ReadsTree, is_tree, has_no_tree, tree_memory, longest_json}
+use Rattle.servient_script.specs.Script.{longest_script}
 use Rattle.servient_cli.specs.Replaying.{Plans, TakesBuiltIn, is_built_in, built_in_memory, plan_name, ReadsEvents, ReadsInputs, HasRead, has_read, RunsOn, ReadsScript, is_script, is_no_script, script_memory, RunsScript, is_whole, is_spent, run_memory}
 use Rattle.servient_cli.specs.declared.storming.TheConstants.{STORM_EXCHANGES}
 use Rattle.servient_cli.specs.Storming.{RunsStorm, is_counted, storm_memory, Storms, StormsOn, with_few_exchanges}

@@ -31,7 +31,8 @@ use Rattle.servient_outside.specs.Out.{OutSeen, NoWriteFailed}
 use Rattle.servient_cli.specs.declared.derivation.Planned.{Planned}
 use Rattle.servient_cli.specs.Lines.{usage_line}
 use Rattle.servient_cli.specs.Stages.{Deed, text_in, Outcome, ends, EndsWith, RunsOut, AndThen, Around, ShowsDeeds}
-use Rattle.servient_cli.specs.Reading.{ReadsFile, longest_script, longest_json}
+use Rattle.servient_cli.specs.Reading.{ReadsFile, longest_json}
+use Rattle.servient_script.specs.Script.{longest_script}
 use Rattle.servient_cli.specs.Replaying.{Replays, IsFaultlessScript, built_in}
 use Rattle.servient_cli.specs.Storming.{Storms}
 use Rattle.servient_cli.specs.Listening.{ServesPlan}

@@ -1,7 +1,3 @@
-pub mod Fields
-pub mod Script
-pub mod Print
-pub mod Merging
 pub mod Lines
 pub mod FaultLines
 pub mod Stages

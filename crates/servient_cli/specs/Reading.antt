@@ -12,10 +12,7 @@ use Rattle.servient_cli.specs.Stages.{Deed, did_read, did_fail, Outcome, goes_on
 
 -- ---- files
 
--- the longest script, and the longest description, plan or model, in bytes
-abbrev pub longest_script : ℕ
-longest_script = 16777216
-
+-- the longest description, plan or model, in bytes
 abbrev pub longest_json : ℕ
 longest_json = 1048576
 

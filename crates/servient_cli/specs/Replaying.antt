@@ -15,11 +15,12 @@ use Rattle.servient_core.specs.Trace.{Sighting, at_handler, happened_in, calls_i
 use Rattle.servient_core.specs.Machine.{Site, State, Run, start}
 use Rattle.servient_cli.specs.declared.derivation.Planned.{Planned}
 use Rattle.servient_cli.specs.declared.replay.Inputs.{Inputs}
-use Rattle.servient_cli.specs.Script.{IsScript, IsFirstBadLine, StopsAtEnd, has_stop}
-use Rattle.servient_cli.specs.Print.{print_text}
+use Rattle.servient_script.specs.Script.{IsScript, IsFirstBadLine, StopsAtEnd, has_stop}
+use Rattle.servient_script.specs.Print.{print_text}
 use Rattle.servient_cli.specs.Lines.{input_line, spent_line}
 use Rattle.servient_cli.specs.Stages.{Deed, did_write, sees, Outcome, goes_on, EndsWith, RunsOut, AndThen}
-use Rattle.servient_cli.specs.Reading.{ReadsFile, longest_script}
+use Rattle.servient_cli.specs.Reading.{ReadsFile}
+use Rattle.servient_script.specs.Script.{longest_script}
 use Rattle.servient_cli.specs.Deriving.{ReadsPlanned}
 use Rattle.servient_cli.specs.Opening.{Opens}
 

@@ -5,9 +5,9 @@ ghost use Rattle.std.specs.List.{filter};
 ghost use Rattle.servient_cli.specs.Counting.{came, is_datagram as is_datagram_what, is_sent as is_sent_act, is_unavailable as is_unavailable_act, storm_line, turns_kept as turns_kept_in};
 
 use crate::ending::Ending;
-use crate::print::put_number;
 use coap_msg::SERVICE_UNAVAILABLE;
 use servient_outside::{Act, Events, What};
+use servient_script::put_number;
 use std::alloc::Global;
 use thing_handler::Handlers;
 use wot_json::{Bytes, NoMemory};

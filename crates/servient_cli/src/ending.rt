@@ -5,9 +5,9 @@ ghost use Rattle.wot_json.specs.Json.{json_string};
 ghost use Rattle.servient_cli.specs.Consuming.{line_after, outcome_text, status_text};
 ghost use Rattle.servient_cli.specs.Lines.{file_line, input_line, invalid_line, no_affordance_line, no_form_line, valid_line};
 
-use crate::print::put_number;
 use command_words::WordsFault;
 use network_consumer::{Consumed, ConsumedOutcome, Status};
+use servient_script::put_number;
 use std::alloc::Global;
 use wot_json::{Bytes, NoMemory, quoted};
 

@@ -1,4 +1,4 @@
-//! The commands: words, scripts, the print, and the top call.
+//! The commands, and the top call.
 //!
 //! `servient_main` is the whole program. Its contract, `Ends` of `specs/Command.antt`, says for each exit status why it
 //! came and what was written. The whole output is one call of `Out::put`, but that `consume` writes each payload as it
@@ -25,19 +25,14 @@ mod described;
 mod discovery;
 mod ending;
 mod fault_lines;
-mod laws;
 mod listening;
 mod main_call;
 mod opening;
-mod print;
 mod reading;
 mod replay;
-mod script;
 mod storming;
-mod turns;
 
 pub use ending::{Ended, Ending, end_with};
-pub use laws::{each_event_has_fields, lines_are_cut_in_one_way};
 pub use main_call::{report, servient_main};
 pub use reading::{LONGEST_JSON, read_file, read_tree};
-pub use script::{Script, ScriptFault};
+pub use servient_script::{Script, ScriptFault, each_event_has_fields, lines_are_cut_in_one_way};

@@ -11,9 +11,6 @@ use servient_outside::{Files, Got};
 use std::alloc::Global;
 use wot_json::{Bytes, ReadFault, Tree, read};
 
-/// The longest script, in bytes.
-pub const LONGEST_SCRIPT: usize = 16_777_216;
-
 /// The longest description, plan or model, in bytes.
 pub const LONGEST_JSON: usize = 1_048_576;
 

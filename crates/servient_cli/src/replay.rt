@@ -11,25 +11,25 @@ ghost use Rattle.thing_site.specs.Fits.{Fits};
 ghost use Rattle.servient_plan.specs.Plan.{MayBeServed};
 ghost use Rattle.servient_core.specs.Machine.{start};
 ghost use Rattle.servient_core.specs.Serving.{StandsFor};
-ghost use Rattle.servient_cli.specs.Script.{StopsAtEnd};
-ghost use Rattle.servient_cli.specs.Print.{print_text};
-ghost use Rattle.servient_cli.specs.Merging.{HaveKept, IsMerged, turns_after};
+ghost use Rattle.servient_script.specs.Script.{StopsAtEnd};
+ghost use Rattle.servient_script.specs.Print.{print_text};
+ghost use Rattle.servient_script.specs.Merging.{HaveKept, IsMerged, turns_after};
 ghost use Rattle.servient_cli.specs.Lines.{spent_line};
 ghost use Rattle.servient_outside.specs.Files.{FilesSeen};
 ghost use Rattle.servient_cli.specs.Stages.{Around, around};
-ghost use Rattle.servient_cli.specs.Reading.{longest_script};
+ghost use Rattle.servient_script.specs.Script.{longest_script};
 ghost use Rattle.servient_cli.specs.Replaying.{HasScript, Plans, ReadsEvents, ReadsInputs, ReadsScript, RunsOn, RunsScript, TakesBuiltIn, plan_name as name_of_plan};
 ghost use Rattle.servient_cli.specs.Ending.{EndsBy, Performs};
 
 use crate::derivation::{Planned, read_planned};
 use crate::ending::{Ended, Ending, SPENT_LINE, end_with};
 use crate::opening::open;
-use crate::print::put_acts;
-use crate::reading::{LONGEST_SCRIPT, read_file};
-use crate::script::{Script, ScriptFault};
-use crate::turns::{put_turns, turn_counts, turns_since};
+use crate::reading::read_file;
 use servient_core::{Plan, Served, Servient, serve};
 use servient_outside::{Act, Calls, Events, Files, NetMemory};
+use servient_script::{
+    LONGEST_SCRIPT, Script, ScriptFault, put_acts, put_turns, turn_counts, turns_since,
+};
 use std::alloc::{AllocError, Global};
 use thing_handler::{Handlers, Turn};
 use tm_parts::Library;

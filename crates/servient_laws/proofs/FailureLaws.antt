@@ -40,7 +40,8 @@ use Rattle.servient_cli.specs.declared.replay.Inputs.{Inputs}
 use Rattle.servient_cli.specs.declared.storming.TheConstants.{STORM_EXCHANGES}
 use Rattle.servient_cli.specs.Lines.{network_line}
 use Rattle.servient_cli.specs.Stages.{Deed, did_read, did_fail, did_see, did_forget, did_write, read_in, reads_in, sees, shows_all, sightings_in, text_in, HasFailed, Outcome, goes_on, ends, AndThen, ends_first, goes_further, Around}
-use Rattle.servient_cli.specs.Reading.{ReadsFile, is_read, is_absent, is_unreadable, is_long, file_memory, file_read, ReadsTree, is_tree, has_no_tree, tree_memory, longest_json, longest_script}
+use Rattle.servient_cli.specs.Reading.{ReadsFile, is_read, is_absent, is_unreadable, is_long, file_memory, file_read, ReadsTree, is_tree, has_no_tree, tree_memory, longest_json}
+use Rattle.servient_script.specs.Script.{longest_script}
 use Rattle.servient_cli.specs.Replaying.{Plans, TakesBuiltIn, is_built_in, built_in_memory, plan_name, ReadsEvents, ReadsInputs, HasRead, has_read, RunsOn, ReadsScript, is_script, is_no_script, script_memory, RunsScript, is_whole, is_spent, run_memory}
 use Rattle.servient_cli.specs.Storming.{RunsStorm, is_counted, storm_memory, Storms, StormsOn, with_few_exchanges}
 use Rattle.servient_cli.specs.Consuming.{TakesDescription, is_taken, has_fault, description_memory, DescriptionIn, ReadsDescription, ReadsValue, HasInput, has_input, HasNoInput, has_no_input, ReadsInput, Chooses, is_chosen, has_no_affordance, has_no_form, choose_memory, deeds_of, status_after, line_after, EndsAfter, has_ended, line_memory, IsOperated, Operates, OperatesOn, ConsumesBy, ConsumesThing}

@@ -1,8 +1,8 @@
 use Rattle.std.proofs.Common.{◌∙◌, ◌++◌, List, refl, sym, ap, subst}
 use Rattle.std.specs.Prelude.{codes, decimal, Result, Err}
 use Rattle.servient_outside.specs.declared.net.EventWithBytes.{EventWithBytes}
-use Rattle.servient_cli.specs.declared.script.ScriptFault.{ScriptFault}
-use Rattle.servient_cli.specs.Script.{IsScript}
+use Rattle.servient_script.specs.declared.script.ScriptFault.{ScriptFault}
+use Rattle.servient_script.specs.Script.{IsScript}
 use Rattle.servient_cli.specs.Lines.{input_line}
 use Rattle.servient_cli.specs.Replaying.{ReadsScript, is_script, is_no_script, script_memory}
 use Rattle.servient_cli.proofs.StageLaws.{goes_quietly, ends_memory, writes_line}

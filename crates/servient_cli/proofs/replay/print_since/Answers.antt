@@ -2,8 +2,8 @@ use Rattle.std.proofs.Common.{◌≡◌, ◌∙◌, List, sym, ap, subst, map}
 use Rattle.std.specs.Prelude.{IfOk}
 use Rattle.thing_handler.specs.declared.handler.Turn.{Turn}
 use Rattle.servient_outside.specs.declared.net.Act.{Act}
-use Rattle.servient_cli.specs.Merging.{IsMerged}
-use Rattle.servient_cli.specs.Print.{print_text}
+use Rattle.servient_script.specs.Merging.{IsMerged}
+use Rattle.servient_script.specs.Print.{print_text}
 use Rattle.servient_cli.proofs.RunLaws.{acts_shown}
 use Rattle.servient_cli.proofs.replay.print_since.Goals as goal
 

@@ -3,7 +3,8 @@ use Rattle.std.proofs.lemmas.Result.{err_from_is_err_and}
 use Rattle.servient_outside.specs.declared.net.EventWithBytes.{EventWithBytes}
 use Rattle.servient_cli.specs.Stages.{around}
 use Rattle.servient_cli.specs.Ending.{Performs}
-use Rattle.servient_cli.specs.Reading.{ReadsFile, longest_script}
+use Rattle.servient_cli.specs.Reading.{ReadsFile}
+use Rattle.servient_script.specs.Script.{longest_script}
 use Rattle.servient_cli.specs.Replaying.{ReadsScript}
 use Rattle.servient_cli.proofs.StageLaws.{then_performs, error_performs}
 use Rattle.servient_cli.proofs.replay.read_events.Goals as goal

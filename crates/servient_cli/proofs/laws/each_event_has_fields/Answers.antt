@@ -1,5 +1,0 @@
-use Rattle.servient_cli.proofs.LineTexts.{AreFields-line_fields}
-use Rattle.servient_cli.proofs.laws.each_event_has_fields.Goals as goal
-
-pub returns : goal.returns
-returns c = λ e is. AreFields-line_fields e is

@@ -1,0 +1,4 @@
+pub mod Fields
+pub mod Script
+pub mod Print
+pub mod Merging

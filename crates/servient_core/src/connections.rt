@@ -17,6 +17,7 @@ use crate::Net;
 use crate::layers::Layers;
 use crate::performing::perform_by_http;
 use http_bind::{HEAD_BYTES, HttpBind, HttpNext, HttpOut, NoMemory, ROOM, WORD_BYTES};
+use http_wire::CONTINUE;
 use std::alloc::Global;
 use thing_handler::Handlers;
 use thing_ops::Outcome;
@@ -197,7 +198,7 @@ impl ReplyRoom {
         ensures continued { SendsContinue c http.old http.new (N.seen net.old) (N.seen net.new) }
         ensures left { LeavesNoMore http.old http.new }
     {
-        let out = http.refused(c, 100, &mut self.head, &mut self.word);
+        let out = http.refused(c, CONTINUE, &mut self.head, &mut self.word);
         send(net, c, &out);
     }
 

@@ -18,6 +18,12 @@ use thing_site::{HeldThing, LONGEST_VALUE, Spot};
 use wot_json::{Bytes, Tree};
 use wot_terms::Kind;
 
+/// The bytes of an object without members: its braces.
+const BRACES: usize = 2;
+
+/// The bytes of a member besides its name and its value: a comma and a colon.
+const SIGNS: usize = 2;
+
 /// Reads a property, and judges it by the version that it then has. The room for its text is taken before the call, so
 /// that an answer takes no more memory.
 pub fn read<R: Handlers>(
@@ -241,7 +247,7 @@ fn room_for(alloc: Global, fields: &[Field<'_>]) -> Option<Vec<u8>>
 fn size_of_all(fields: &[Field<'_>]) -> Option<usize>
     ensures { IfSome result (λ size. size ≡ room_of_all fields.now) }
 {
-    let mut size = 2_usize;
+    let mut size = BRACES;
     for field in fields {
         size = match size_with(size, field.name().len()) {
             Some(size) => size,
@@ -255,7 +261,7 @@ fn size_of_all(fields: &[Field<'_>]) -> Option<usize>
 fn size_with(size: usize, name: usize) -> Option<usize>
     ensures { IfSome result (λ all. all ≡ size + (name + (LONGEST_VALUE + 2))) }
 {
-    match name.checked_add(LONGEST_VALUE + 2) {
+    match name.checked_add(LONGEST_VALUE + SIGNS) {
         Some(field) => size.checked_add(field),
         None => None,
     }

@@ -13,7 +13,7 @@ abbrev pub step_from : Sources → List Reference → Step
 step_from sources chain = visits_within (most_entries - length chain) sources
 
 -- the same, among the models that the code has
-abbrev pub next_step : kept.Sources → List Reference → Step
+abbrev pub next_step : kept.StepSources → List Reference → Step
 next_step sources chain = step_from sources.models chain
 
 -- the rest once this much was taken, or nothing where there was less

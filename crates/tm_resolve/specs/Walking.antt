@@ -21,7 +21,7 @@ steps_from sources chain = record {
 }
 
 -- the same, among the models that the code has
-abbrev pub next_steps : kept.Sources → List Reference → Steps
+abbrev pub next_steps : kept.StepSources → List Reference → Steps
 next_steps sources chain = steps_from sources.models chain
 
 -- a call that has these faults to find is refused with this one: the first of them, or out of memory

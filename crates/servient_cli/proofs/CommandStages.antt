@@ -30,7 +30,7 @@ use Rattle.servient_cli.specs.Replaying.{plan_name, ReadsInputs, run_events, Run
 use Rattle.servient_cli.specs.Checking.{Checks, IsFaultlessDescription, Judges}
 use Rattle.servient_cli.specs.Deriving.{ReadsPlanned, Derives, derived_of, Prints, DerivesAndPrints}
 use Rattle.servient_outside.specs.Out.{OutSeen, NoWriteFailed}
-use Rattle.servient_cli.specs.Command.{IsFaultless, HasFaultlessFiles, IsReported, Ends, NothingFailed, IsAnswered, IsWell, Does, Commands, EndsAndReports, is_asking, is_discovering, is_networked, is_serving, is_no_command, is_command, words_memory}
+use Rattle.servient_cli.specs.Command.{reads_files, IsFaultless, HasFaultlessFiles, IsReported, Ends, NothingFailed, IsAnswered, IsWell, Does, Commands, EndsAndReports, is_asking, is_discovering, is_networked, is_serving, is_no_command, is_command, words_memory}
 use Rattle.servient_cli.proofs.FaultlessStages.{GoesOn, EndsWell, by_memory, same_status, HasTrouble, what_trouble, rose_some, then_well, read_well, tree_well, judge_well, derive_well, print_well, planned_well, with_events, inputs_well, run_on_well}
 use Rattle.servient_base.specs.Count.{Rose}
 use Rattle.servient_cli.proofs.FaultlessConsuming.{IsConsumed, MayEnd, consume_well, discover_well}
@@ -50,23 +50,23 @@ served_done plan budget idle o (inr (inl nine)) = inl (inr nine)
 served_done plan budget idle o (inr (inr eight)) = inr (inl (refl, eight))
 
 -- a command with whose files nothing is wrong
-does_well : (held : Option (List HeldFile)) (files : List HeldFile) (kinds : List Kind) (command : Command) (seen : List Deed) (o : Outcome (Unit {0})) → held ≡ Some files → HasFaultlessFiles files kinds command → ¬ (HasTrouble seen) → Does held kinds command seen o → IsDone command o
+does_well : (held : Option (List HeldFile)) (files : List HeldFile) (kinds : List Kind) (command : Command) (seen : List Deed) (o : Outcome (Unit {0})) → (reads_files command ≡ true → held ≡ Some files) → HasFaultlessFiles files kinds command → ¬ (HasTrouble seen) → Does held kinds command seen o → IsDone command o
 does_well held files kinds (Replay script plan events) seen o is_held fine quiet stage = inl (
     then_well EndsWell by_memory (ReadsInputs held plan script) (RunsOn (plan_name plan) kinds events) (λ read. read ≡ with_events fine.planned fine.script_is.good.0) seen o quiet
-    (λ s r q st. inputs_well held files kinds script plan events fine s r is_held q st)
+    (λ s r q st. inputs_well held files kinds script plan events fine s r (is_held refl) q st)
     (λ read same s q st. run_on_well (plan_name plan) kinds events read fine.things s o
     (ap (λ (x : Inputs). derived_of x.planned) same ∙ fine.derived_is)
     (ap (λ (x : Inputs). expose_faults kinds x.planned.plan.slots fine.things) same ∙ fine.fits)
     (subst (λ (x : Inputs). length (run_events x.events) ≤ events) (sym same) fine.script_is.good.2) q st) stage)
 does_well held files kinds (Check description) seen o is_held fine quiet stage = inl (
     then_well EndsWell by_memory (ReadsFile held longest_json description) (Checks description) (λ c. c ≡ fine.content) seen o quiet
-    (λ s r q p. read_well held longest_json description fine.content files s r is_held fine.holds fine.short q p)
+    (λ s r q p. read_well held longest_json description fine.content files s r (is_held refl) fine.holds fine.short q p)
     (λ content same s q p. let good = subst IsFaultlessDescription (sym same) fine.good in
     then_well EndsWell by_memory (ReadsTree description content) Judges (λ tree. json_of tree ≡ good.0) s o q (λ s2 r q2 p2. tree_well description content good.0 s2 r good.1 p2)
     (λ tree is s2 q2 p2. judge_well tree s2 o (ap faults_of is ∙ good.2) p2) p) stage)
 does_well held files kinds (Derive plan) seen o is_held fine quiet stage = inl (
     then_well EndsWell by_memory (ReadsPlanned held plan) DerivesAndPrints (λ p. p ≡ fine.planned) seen o quiet
-    (λ s r q st. planned_well held files plan fine.planned s r is_held fine.by_plan q st)
+    (λ s r q st. planned_well held files plan fine.planned s r (is_held refl) fine.by_plan q st)
     (λ p same s q st. then_well EndsWell by_memory (Derives p) Prints (λ ts. Unit {0}) s o q
     (λ s2 r q2 st2. any_things r (derive_well p fine.things s2 r (ap derived_of same ∙ fine.derived_is) st2))
     (λ ts any s2 q2 st2. print_well ts s2 o st2) st) stage)
@@ -74,8 +74,8 @@ does_well held files kinds (Derive plan) seen o is_held fine quiet stage = inl (
     any_things : (r : Outcome (List (List ℕ × Json))) → GoesOn (λ ts. ts ≡ fine.things) r → GoesOn (λ ts. Unit {0}) r
     any_things r (inl goes) = inl (goes.0, tt, goes.2)
     any_things r (inr nine) = inr nine
-does_well held files kinds (Serve plan budget idle) seen o is_held fine quiet stage = served_done plan budget idle o (serving_well held files kinds plan budget idle fine seen o is_held quiet stage)
-does_well held files kinds (Consume consumption) seen o is_held fine quiet stage = inr (inr (refl, consume_well held files consumption fine seen o is_held quiet stage))
+does_well held files kinds (Serve plan budget idle) seen o is_held fine quiet stage = served_done plan budget idle o (serving_well held files kinds plan budget idle fine seen o (is_held refl) quiet stage)
+does_well held files kinds (Consume consumption) seen o is_held fine quiet stage = inr (inr (refl, consume_well held files consumption fine seen o (is_held refl) quiet stage))
 does_well held files kinds (Discover host port) seen o is_held fine quiet stage = inr (inr (refl, discover_well host port seen o quiet stage))
 does_well held files kinds (Storm seed events) seen o is_held fine quiet stage = inl (storm_well kinds seed events fine seen o quiet stage)
 
@@ -135,9 +135,6 @@ discovering_asks (Discover host port) is = refl
 
 pub other_is_not : (words : List (List ℕ)) (command : Command) → meaning_of words ≡ Some command → is_asking (Some command) ≡ false → is_asking (meaning_of words) ≡ false
 other_is_not words command meaning is = ap is_asking meaning ∙ is
-
-pub other_asks_not : (words : List (List ℕ)) (command : Command) → meaning_of words ≡ Some command → is_asking (Some command) ≡ false → is_asking (meaning_of words) ≡ true → ⊥
-other_asks_not words command meaning is asks = let bad : true ≡ false = sym asks ∙ other_is_not words command meaning is in cc
 
 pub other_discovers_not : (words : List (List ℕ)) (command : Command) → meaning_of words ≡ Some command → is_asking (Some command) ≡ false → is_discovering (meaning_of words) ≡ true → ⊥
 other_discovers_not words command meaning is discovers =

@@ -173,33 +173,44 @@ later_rose a b c rose more = omega (arith, rose, more)
 then_rose : (a b c : ℕ) → a ≤ b → Rose b c → Rose a c
 then_rose a b c more rose = omega (arith, rose, more)
 
+first_of_nothing : (a b : List ℕ) → a ++ b ≡ [] → a ≡ []
+first_of_nothing [] b none = refl
+first_of_nothing (x ∷ a) b none = absurd cc
+
 printed_then : (printed text : List ℕ) (status : ℕ) (p : Put) (out out_now later : OutSeen) (result : ℕ) → OutShows out out_now p printed → (p ≡ put.Failed → (status ≡ 7) × (text ≡ [])) → out_now.faults ≤ later.faults → IsReported status text out_now later result → IsReported status (printed ++ text) out later result
 printed_then printed text status put.Done out out_now later result wrote failed more (inl done) = inl (done.0, continues_then out.written out_now.written later.written printed text wrote.writes done.1)
 printed_then printed text status put.Done out out_now later result wrote failed more (inr broke) =
-    let prefix = broke.2 in
     inr (
       broke.0,
       then_rose out.faults out_now.faults later.faults wrote.faults broke.1,
-      printed ++ broke.2,
-      broke.3,
-      ap (λ (t : List ℕ). printed ++ t) broke.4 ∙ sym (append_assoc printed broke.2 broke.3),
-      continues_then out.written out_now.written later.written printed broke.2 wrote.writes broke.5,
+      (λ none. broke.2 (second_of_nothing printed text none)),
+      printed ++ broke.3,
+      broke.4,
+      ap (λ (t : List ℕ). printed ++ t) broke.5 ∙ sym (append_assoc printed broke.3 broke.4),
+      continues_then out.written out_now.written later.written printed broke.3 wrote.writes broke.6,
     )
-printed_then printed text status put.Failed out out_now later result wrote failed more (inl done) =
-    let none = failed refl in
-    let all : printed ++ text ≡ printed = ap (λ (t : List ℕ). printed ++ t) none.1 ∙ append-nil printed in
-    let written : Continues out.written later.written (wrote.writes.0 ++ []) = continues_then out.written out_now.written later.written wrote.writes.0 [] wrote.writes.3 (subst (λ (t : List ℕ). Continues out_now.written later.written t) none.1 done.1) in
-    inr (done.0 ∙ none.0, later_rose out.faults out_now.faults later.faults (wrote.failed refl) more, wrote.writes.0, wrote.writes.1, all ∙ wrote.writes.2, subst (λ (t : List ℕ). Continues out.written later.written t) (append-nil wrote.writes.0) written)
-printed_then printed text status put.Failed out out_now later result wrote failed more (inr broke) =
-    let none = failed refl in
-    let all : printed ++ text ≡ printed = ap (λ (t : List ℕ). printed ++ t) none.1 ∙ append-nil printed in
-    let empty : broke.2 ≡ [] = first_of_nothing broke.2 broke.3 (sym broke.4 ∙ none.1) in
-    let written : Continues out.written later.written (wrote.writes.0 ++ []) = continues_then out.written out_now.written later.written wrote.writes.0 [] wrote.writes.3 (subst (λ (t : List ℕ). Continues out_now.written later.written t) empty broke.5) in
-    inr (broke.0, later_rose out.faults out_now.faults later.faults (wrote.failed refl) more, wrote.writes.0, wrote.writes.1, all ∙ wrote.writes.2, subst (λ (t : List ℕ). Continues out.written later.written t) (append-nil wrote.writes.0) written)
   where
-    first_of_nothing : (a b : List ℕ) → a ++ b ≡ [] → a ≡ []
-    first_of_nothing [] b none = refl
-    first_of_nothing (x ∷ a) b none = absurd cc
+    second_of_nothing : (a b : List ℕ) → a ++ b ≡ [] → b ≡ []
+    second_of_nothing [] b none = none
+    second_of_nothing (x ∷ a) b none = absurd cc
+-- nothing was to be written, and the status said already that the output failed
+printed_then [] text status put.Failed out out_now later result wrote failed more (inl done) =
+    let empty : wrote.writes.0 ≡ [] = first_of_nothing wrote.writes.0 wrote.writes.1 (sym wrote.writes.2) in
+    inl (done.0, continues_then out.written out_now.written later.written [] text (subst (λ (t : List ℕ). Continues out.written out_now.written t) empty wrote.writes.3) done.1)
+printed_then (x ∷ printed) text status put.Failed out out_now later result wrote failed more (inl done) =
+    let none = failed refl in
+    let all : (x ∷ printed) ++ text ≡ x ∷ printed = ap (λ (t : List ℕ). (x ∷ printed) ++ t) none.1 ∙ append-nil (x ∷ printed) in
+    let written : Continues out.written later.written (wrote.writes.0 ++ []) = continues_then out.written out_now.written later.written wrote.writes.0 [] wrote.writes.3 (subst (λ (t : List ℕ). Continues out_now.written later.written t) none.1 done.1) in
+    inr (
+      done.0 ∙ none.0,
+      later_rose out.faults out_now.faults later.faults (wrote.failed refl) more,
+      (λ empty. absurd cc),
+      wrote.writes.0,
+      wrote.writes.1,
+      all ∙ wrote.writes.2,
+      subst (λ (t : List ℕ). Continues out.written later.written t) (append-nil wrote.writes.0) written,
+    )
+printed_then printed text status put.Failed out out_now later result wrote failed more (inr broke) = absurd (broke.2 (failed refl).1)
 
 -- the writes before the end, and then the report
 pub printing_reported : (P : List Deed → Outcome (Unit {0}) → Type 0) (before now : Around) (out out_now later : OutSeen) (r : Result Ending Ended) (result : ℕ) → EndsPrinting P before now out out_now r → IsReported (final_status r) (final_text r) out_now later result → out_now.faults ≤ later.faults

@@ -1,5 +1,5 @@
 -- Laws of stages and of what is seen of them.
-use Rattle.std.proofs.Common.{◌≡◌, ◌≤◌, ◌⊎◌, ℕ, List, [], ◌∷◌, ◌++◌, refl, sym, ap, subst, ◌∙◌, arith, inl, inr}
+use Rattle.std.proofs.Common.{◌≡◌, ◌≤◌, ◌⊎◌, ℕ, List, [], ◌∷◌, ◌++◌, length, refl, sym, ap, subst, ◌∙◌, arith, inl, inr}
 use Rattle.std.proofs.lemmas.Grind.{flat_map-append}
 use Rattle.std.proofs.lemmas.List.Elements.{filter_map-append}
 use Rattle.std.specs.Prelude.{Result, Ok, Err, map, IfOk, MatchResult}
@@ -329,3 +329,8 @@ calls_end_twice P files net before now calls status print line text shows is sta
           ∙ ap (λ (more : List ℕ). more ++ text_in (did_write line ∷ [])) (text_after made print (no_text (map (λ call. at_handler call) calls)))
           ∙ ap (λ (more : List ℕ). print ++ more) (line_alone line) ∙ sym is;
     }
+
+-- a text without bytes is nothing
+pub nothing_if_empty : (text other : List ℕ) → text ≡ other → length text ≡ 0 → other ≡ []
+nothing_if_empty [] other is none = sym is
+nothing_if_empty (x ∷ text) other is none = absurd cc

@@ -82,6 +82,13 @@ is_networked (Some (Consume consumption)) = true
 is_networked (Some (Discover host port)) = true
 is_networked command = false
 
+-- the words mean a command that calls handlers
+abbrev pub calls_handlers : Option Command → Bool
+calls_handlers (Some (Replay script plan events)) = true
+calls_handlers (Some (Serve plan budget idle)) = true
+calls_handlers (Some (Storm seed events)) = true
+calls_handlers command = false
+
 -- the words are outside the grammar
 abbrev pub IsNoCommand : List (List ℕ) → Type 0
 IsNoCommand words = meaning_of words ≡ None
@@ -94,12 +101,12 @@ pub data Commands (held : Option (List HeldFile)) (kinds : List Kind) (words : L
 
 -- ---- the whole call
 
--- The text was written and the status is its own; or the output failed, which its count records, a prefix of the text
--- was written, and the status is 7.
+-- The text was written and the status is its own; or there was a text to write and the output failed, which its count
+-- records, a prefix of the text was written, and the status is 7.
 abbrev pub IsReported : ℕ → List ℕ → OutSeen → OutSeen → ℕ → Type 0
 IsReported status text out out_now result =
     (result ≡ status) × Continues out.written out_now.written text
-    ⊎ (result ≡ 7) × Rose out.faults out_now.faults
+    ⊎ (result ≡ 7) × Rose out.faults out_now.faults × (text ≢ [])
     × (prefix : List ℕ) × (rest : List ℕ) × (text ≡ prefix ++ rest) × Continues out.written out_now.written prefix
 
 -- Stages came out with a status, the files, the network and the handlers show what was done, and the output shows what
@@ -185,12 +192,19 @@ HasFaultlessFiles files kinds (Storm seed events) = IsFaultlessStorm kinds
 HasFaultlessFiles files kinds (Consume consumption) = IsFaultlessConsumption files consumption
 HasFaultlessFiles files kinds (Discover host port) = Unit {0}
 
--- Nothing is wrong with the words, the files and the rack: the words mean a command, and nothing is wrong with it.
+-- a command that reads files
+abbrev pub reads_files : Command → Bool
+reads_files (Storm seed events) = false
+reads_files (Discover host port) = false
+reads_files command = true
+
+-- Nothing is wrong with the words, the files and the rack: the words mean a command, the files are told where it reads
+-- some, and nothing is wrong with it.
 pub record IsFaultless (words : List (List ℕ)) (held : Option (List HeldFile)) (kinds : List Kind) : Type 0 where
   pub command : Command
   pub meaning : meaning_of words ≡ Some command
   pub files : List HeldFile
-  pub told : held ≡ Some files
+  pub told : reads_files command ≡ true → held ≡ Some files
   pub faultless : HasFaultlessFiles files kinds command
 
 -- The failures that are known: of reads of files, of calls of the network, of the output. There was none.

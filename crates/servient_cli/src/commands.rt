@@ -6,7 +6,7 @@ ghost use Rattle.thing_site.specs.Exposing.{kinds_of};
 ghost use Rattle.servient_cli.specs.Stages.{AndThen, around};
 ghost use Rattle.servient_cli.specs.Reading.{ReadsFile, longest_json};
 ghost use Rattle.servient_cli.specs.Checking.{Checks};
-ghost use Rattle.servient_cli.specs.Command.{is_asking, is_networked, Does};
+ghost use Rattle.servient_cli.specs.Command.{calls_handlers, is_asking, is_networked, Does};
 ghost use Rattle.servient_cli.specs.Ending.{EndsBy};
 
 use crate::checking::check_file;
@@ -34,6 +34,7 @@ pub fn run_command<F: Files, N: Net, R: Handlers>(
         (around (F.seen files.old) (outside (N.seen net.old) (R.slots rack.old)))
         (around (F.seen files.new) (outside (N.seen net.new) (R.slots rack.new))) result }
     ensures net { is_networked (Some command.now) ≡ false → net.new ≡ net.old }
+    ensures rack { calls_handlers (Some command.now) ≡ false → rack.new ≡ rack.old }
 {
     match command {
         Command::Replay {

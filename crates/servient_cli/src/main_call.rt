@@ -9,7 +9,7 @@ ghost use Rattle.servient_base.specs.Count.{Rose};
 ghost use Rattle.servient_outside.specs.Out.{NoWriteFailed};
 ghost use Rattle.servient_core.specs.Trace.{outside};
 ghost use Rattle.thing_handler.specs.Handler.{Seen};
-ghost use Rattle.servient_cli.specs.Command.{is_asking, is_discovering, is_networked, is_storm};
+ghost use Rattle.servient_cli.specs.Command.{calls_handlers, is_asking, is_discovering, is_networked, is_storm};
 ghost use Rattle.servient_cli.specs.Command.{Does, Ends, EndsAndReports, IsFaultless, IsNoCommand, IsReported, IsWell, MayDiscover, NothingFailed};
 ghost use Rattle.servient_cli.specs.Consuming.{EndsPrinting};
 ghost use Rattle.servient_cli.specs.Ending.{final_status as status_in, final_text as text_in};
@@ -71,8 +71,8 @@ pub fn servient_main<F: Files, N: Net, R: Handlers, O: Out>(
     ensures discovery { is_discovering (meaning_of words.now) ≡ true → MayDiscover result }
     // Where no plan is served and nothing is asked of others, nothing is done to the network.
     ensures net { is_networked (meaning_of words.now) ≡ false → net.new ≡ net.old }
-    // Where others are asked, no handler is called.
-    ensures rack { is_asking (meaning_of words.now) ≡ true → rack.new ≡ rack.old }
+    // Unless a servient runs, the rack is left as it was: where the words are no command, too.
+    ensures rack { calls_handlers (meaning_of words.now) ≡ false → rack.new ≡ rack.old }
     // A discovery leaves the files as they were.
     ensures files { is_discovering (meaning_of words.now) ≡ true → files.new ≡ files.old }
 {
@@ -148,13 +148,17 @@ fn ask_others<F: Files, N: Net, O: Out>(
     }
 }
 
-/// Writes the text with which a command ended, and gives its status, or 7 where the output failed.
+/// Writes the text with which a command ended, if it has one, and gives its status, or 7 where the output failed.
 pub fn report<O: Out>(out: &mut O, ended: &Result<Ending, Ended>) -> u8
     ensures reported { IsReported (status_in ended.now) (text_in ended.now) (O.seen out.old) (O.seen out.new) result }
     ensures faults { (O.seen out.old).faults ≤ (O.seen out.new).faults }
     ensures no_failure { NoWriteFailed (O.seen out.old) (O.seen out.new) (text_in ended.now) }
 {
-    match out.put(final_text(ended)) {
+    let text = final_text(ended);
+    if text.is_empty() {
+        return final_status(ended);
+    }
+    match out.put(text) {
         Put::Done => final_status(ended),
         Put::Failed => 7,
     }

@@ -4,7 +4,7 @@ use Rattle.servient_cli.specs.Command.{is_discovering}
 use Rattle.servient_core.specs.Trace.{outside}
 use Rattle.servient_cli.specs.Stages.{around}
 use Rattle.servient_cli.specs.Ending.{text_of}
-use Rattle.servient_cli.proofs.CommandStages.{asking_uses_network, built_ends, command_ends, ends_well, other_asks_not, other_discovers_not, other_is_not, refusal_ends}
+use Rattle.servient_cli.proofs.CommandStages.{asking_uses_network, built_ends, command_ends, ends_well, other_discovers_not, other_is_not, refusal_ends}
 use Rattle.servient_cli.proofs.UsageStages.{discovery_ends, output_failed, refusal_failed, usage_is_exact}
 use Rattle.servient_cli.proofs.StormStages.{never_spent}
 use Rattle.servient_cli.proofs.main_call.servient_main.Goals as goal
@@ -136,9 +136,6 @@ returns-in-Ok-clause-discovery g c =
 
 pub returns-in-Ok-clause-files : goal.returns-in-Ok-clause-files
 returns-in-Ok-clause-files g c = λ is. absurd (other_discovers_not c.args.words.now c.in-Ok.command c.in-Ok.ensures (sym c.asks_others.ensures ∙ c.if-asks_others.false) is)
-
-pub returns-in-Ok-clause-rack : goal.returns-in-Ok-clause-rack
-returns-in-Ok-clause-rack g c = λ is. absurd (other_asks_not c.args.words.now c.in-Ok.command c.in-Ok.ensures (sym c.asks_others.ensures ∙ c.if-asks_others.false) is)
 
 pub returns-clause-ends : goal.returns-clause-ends
 returns-clause-ends g c =

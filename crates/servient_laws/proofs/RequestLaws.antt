@@ -18,11 +18,11 @@ use Rattle.coap_exchange.specs.declared.met.Met.{Met}
 use Rattle.coap_exchange.specs.declared.met.Met.TheVariants.{Fresh, Repeat}
 use Rattle.coap_exchange.proofs.HistoryLaws.{tables_follow_the_history}
 use Rattle.coap_bind.specs.declared.server.Server.{Server}
-use Rattle.coap_bind.specs.Duplicates.{OnlyTimePassed, WasRepliedTo}
+use Rattle.coap_bind.specs.Duplicates.{OnlyTimePassed, WasRepliedTo, repeated}
 use Rattle.coap_bind.specs.Server.{start as nothing_came, Heard, ignored, answered_at_once, is_request, arrival, IsMet, malformed, no_request, duplicate as settles_duplicate, full, Hears, settled, admitted, with_id_used}
 use Rattle.coap_bind.specs.Laws.{Did}
 use Rattle.coap_bind.proofs.HistoryLaws.{exchanges_are_of_the_history}
-use Rattle.coap_bind.proofs.DuplicateLaws.{duplicates_change_nothing}
+use Rattle.coap_bind.proofs.DuplicateLaws.{duplicates_change_nothing, duplicates_get_the_first_reply}
 use Rattle.coap_bind.proofs.RepeatedLaws.{only_the_first_reply_is_repeated}
 use Rattle.servient_outside.specs.declared.net.What.TheVariants as what
 use Rattle.servient_outside.specs.declared.net.What.{What}
@@ -33,7 +33,7 @@ use Rattle.servient_core.specs.Machine.{Site, State, Follows, HearsDatagram, Ans
 use Rattle.servient_core.specs.Runs.{HasHistory}
 use Rattle.servient_core.proofs.MeaningLaws.{ends_quiet}
 use Rattle.servient_core.proofs.RunHistories.{each_run_has_a_history}
-use Rattle.servient_laws.specs.Requests.{moment_of, ComesTo, ActsOnNothing, ActsNoMore, RepeatsActOnce, FullTablesActOnNothing}
+use Rattle.servient_laws.specs.Requests.{moment_of, ComesTo, ActsOnNothing, repeated_answer, ActsNoMore, RepeatsActOnce, FullTablesActOnNothing}
 use Rattle.servient_laws.proofs.Histories.{same_requests}
 
 -- ---- the parts of a step on a datagram that is looked at
@@ -136,28 +136,39 @@ verdict_of false false e = absurd cc
 duplicate_has : (exchanges : ℕ) (before : List Arrival) (a : Arrival) → verdict exchanges before a ≡ duplicate → (x : Arrival) × Contains before x × (is_duplicate_of a x ≡ true)
 duplicate_has exchanges before a is = any_has (is_duplicate_of a) before (verdict_of (list_any (is_duplicate_of a) before) (nat_lt (length (filter (lives a.moment) before)) exchanges) is)
 
+-- a duplicate is answered so as it was heard
+answered_so : (site : Site) (from : Endpoint) (h : Heard) (u t : State) (answer : List Sighting) (one other : RequestType) (bytes : List ℕ) → AnswersDatagram site from h u answer t
+    → h ≡ repeated one other bytes → answer ≡ repeated_answer from one other bytes
+answered_so site from h u t answer Confirmable Confirmable bytes does is = (subst (λ (x : Heard). AnswersDatagram site from x u answer t) is does).saw
+answered_so site from h u t answer Confirmable NonConfirmable bytes does is = (subst (λ (x : Heard). AnswersDatagram site from x u answer t) is does).saw
+answered_so site from h u t answer NonConfirmable other bytes does is = (subst (λ (x : Heard). AnswersDatagram site from x u answer t) is does).saw
+
 -- by what is sent to answer it
 by_reply : (site : Site) (exchanges observers : ℕ) (from : Endpoint) (m : CoapMessage) (s t : State) (e : EventWithBytes) (seen : List Sighting)
     (p : Parts site from e.bytes e s seen t) → OnlyTimePassed (moment_of s e) s.coap p.server
     → (p.what ≡ ignored)
     ⊎ ((first : Arrival) × (bytes : List ℕ) × (p.what ≡ answered_at_once bytes) × (is_duplicate_of (arrival from (moment_of s e) m) first ≡ true)
     × (request_type m.kind ≡ Confirmable) × (first.kind ≡ Confirmable) × WasRepliedTo (nothing_came exchanges observers) first bytes s.coap)
+    → ((first : Arrival) (bytes : List ℕ) (observers : ℕ) → is_duplicate_of (arrival from (moment_of s e) m) first ≡ true → WasRepliedTo (nothing_came exchanges observers) first bytes s.coap
+    → p.what ≡ repeated (request_type m.kind) first.kind bytes)
     → ActsNoMore exchanges from m s e seen t
-by_reply site exchanges observers from m s t e seen p passed (inl is) =
+by_reply site exchanges observers from m s t e seen p passed (inl is) again_so =
     let stays = subst (λ (x : Heard). AnswersDatagram site from x (record s { moment = moment_of s e; coap = p.server }) p.answer p.middle) is p.answers in record {
       answer = p.answer;
       middle = p.middle;
       nothing = nothing_done e s p.middle t p.answer p.rest seen p.whole p.ends (ap calls_in stays.saw) (ap (λ (x : State). x.thing) stays.next) (ap (λ (x : State). x.directory) stays.next);
       coap = subst (λ (x : Server). OnlyTimePassed (moment_of s e) s.coap x) (sym (ap (λ (x : State). x.coap) stays.next)) passed;
       reply = inl stays.saw;
+      kept = λ f b o dup replied. answered_so site from p.what (record s { moment = moment_of s e; coap = p.server }) p.middle p.answer (request_type m.kind) f.kind b p.answers (again_so f b o dup replied);
     }
-by_reply site exchanges observers from m s t e seen p passed (inr (first, bytes, is, again, one, other, was)) =
+by_reply site exchanges observers from m s t e seen p passed (inr (first, bytes, is, again, one, other, was)) again_so =
     let does = subst (λ (x : Heard). AnswersDatagram site from x (record s { moment = moment_of s e; coap = p.server }) p.answer p.middle) is p.answers in record {
       answer = p.answer;
       middle = p.middle;
       nothing = nothing_done e s p.middle t p.answer p.rest seen p.whole p.ends (ap calls_in does.saw) (ap (λ (x : State). x.thing) does.next) (ap (λ (x : State). x.directory) does.next);
       coap = subst (λ (x : Server). OnlyTimePassed (moment_of s e) s.coap x) (sym (ap (λ (x : State). x.coap) does.next)) passed;
       reply = inr (first, bytes, observers, does.saw, again, one, other, was);
+      kept = λ f b o dup replied. answered_so site from p.what (record s { moment = moment_of s e; coap = p.server }) p.middle p.answer (request_type m.kind) f.kind b p.answers (again_so f b o dup replied);
     }
 
 pub repeats_act_once : RepeatsActOnce
@@ -171,6 +182,7 @@ repeats_act_once site exchanges epoch from m s t e seen comes =
     by_reply site exchanges k.did.0 from m s t e seen p
     (duplicates_change_nothing exchanges comes.history s.coap p.server from e.bytes now m p.what earlier.0 k.did past b.spells b.request earlier.1 earlier.2 p.hears)
     (only_the_first_reply_is_repeated exchanges k.did.0 comes.history s.coap p.server from e.bytes now m p.what earlier.0 k.did.1 past b.spells b.request earlier.1 earlier.2 p.hears)
+    (λ first bytes observers dup was. (duplicates_get_the_first_reply exchanges was.history was.later was.s was.t s.coap p.server first bytes from e.bytes now m p.what (observers, was.did) was.replied was.since past b.spells b.request dup p.hears).0)
 
 -- ---- a full table
 

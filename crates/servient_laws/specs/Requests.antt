@@ -2,7 +2,8 @@
 -- that came in the run says which requests were admitted (coap_exchange/specs/Admission.antt).
 use Rattle.std.specs.Prelude.{◌≡◌, ◌⊎◌, ◌≤◌, ℕ, max, length, true, Option, List, [], ◌∷◌, ◌++◌}
 use Rattle.coap_msg.specs.declared.endpoint.Endpoint.{Endpoint}
-use Rattle.coap_msg.specs.declared.message.RequestType.TheVariants.{Confirmable}
+use Rattle.coap_msg.specs.declared.message.RequestType.{RequestType}
+use Rattle.coap_msg.specs.declared.message.RequestType.TheVariants.{Confirmable, NonConfirmable}
 use Rattle.coap_msg.specs.declared.constants.TheConstants.{LONGEST_DATAGRAM}
 use Rattle.coap_msg.specs.Grammar.{CoapMessage, Spells}
 use Rattle.coap_msg.specs.Requests.{request_type}
@@ -60,8 +61,16 @@ pub record ActsOnNothing (e : EventWithBytes) (s : State) (answer : List Sightin
 abbrev pub sends_back : Endpoint → List ℕ → List Sighting
 sends_back from reply = at_network (did (act.Datagram from reply)) ∷ []
 
--- A duplicate of a request that was admitted and lives: no exchange and no observer is added or taken away, and the
--- answer to it, if there is one, is the very datagram that was sent for the first.
+-- The answer to a duplicate of this type, where the request of this type was replied to in these bytes: the same, where
+-- both are Confirmable, and else nothing.
+abbrev pub repeated_answer : Endpoint → RequestType → RequestType → List ℕ → List Sighting
+repeated_answer from Confirmable Confirmable reply = sends_back from reply
+repeated_answer from Confirmable NonConfirmable reply = []
+repeated_answer from NonConfirmable kind reply = []
+
+-- A duplicate of a request that was admitted and lives: no exchange and no observer is added or taken away. The answer to
+-- it, if there is one, is the very datagram that was sent for the first, and both are Confirmable. And where the first was
+-- replied to, there is that answer if both are.
 pub record ActsNoMore (exchanges : ℕ) (from : Endpoint) (m : CoapMessage) (s : State) (e : EventWithBytes) (seen : List Sighting) (t : State) : Type 0 where
   pub answer : List Sighting
   pub middle : State
@@ -73,6 +82,9 @@ pub record ActsNoMore (exchanges : ℕ) (from : Endpoint) (m : CoapMessage) (s :
       × (is_duplicate_of (arrival from (moment_of s e) m) first ≡ true)
       × (request_type m.kind ≡ Confirmable) × (first.kind ≡ Confirmable)
       × WasRepliedTo (nothing_came exchanges observers) first bytes s.coap)
+  pub kept : (first : Arrival) (bytes : List ℕ) (observers : ℕ) → is_duplicate_of (arrival from (moment_of s e) m) first ≡ true
+      → WasRepliedTo (nothing_came exchanges observers) first bytes s.coap
+      → answer ≡ repeated_answer from (request_type m.kind) first.kind bytes
 
 -- One that finds as many exchanges alive as may: one datagram is sent back, and no exchange and no observer is added.
 pub record IsTurnedAway (from : Endpoint) (s : State) (e : EventWithBytes) (seen : List Sighting) (t : State) : Type 0 where

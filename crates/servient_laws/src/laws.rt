@@ -13,8 +13,9 @@ ghost use Rattle.servient_laws.specs.Untouched.{FaultsTakeNoEvent, HandlersStay}
 ghost use Rattle.servient_laws.specs.Requests.{RepeatsActOnce, FullTablesActOnNothing};
 ghost use Rattle.servient_laws.specs.Sections.{SectionsKeepPromises};
 
-/// A duplicate of a request that was admitted and lives calls no handler, changes nothing, and is answered with the
-/// very datagram that was sent for the first, if with any (RFC 7252, section 4.5).
+/// A duplicate of a request that was admitted and lives calls no handler and changes nothing. Where both are Confirmable
+/// and the first was replied to, it is answered by the very datagram that was sent then, and else by none (RFC 7252,
+/// section 4.5).
 pub fn repeats_act_once()
     ensures { RepeatsActOnce }
 {}

@@ -3,7 +3,8 @@
 //! Each is the contract of a function with an empty body, so that it is proved and can be cited; no code needs to call
 //! it. They stand in a crate of their own above `servient_core`, so that a further one proves nothing anew.
 //!
-//! - A CoAP request that comes again within its exchange lifetime acts once: `repeats_act_once`.
+//! - A CoAP request that comes again within its exchange lifetime acts once, and gets the reply that was kept:
+//!   `repeats_act_once`.
 //! - A request that is admitted and wants an act makes one: `requests_act_once`; each later block that is sent is of
 //!   one act's payload, `later_blocks_are_of_one_act`, and the blocks of a body lead to one act,
 //!   `joined_bodies_act_once`.

@@ -2,7 +2,7 @@
 use Rattle.std.proofs.Common.{◌≡◌, ℕ, Option, true, ap, refl}
 use Rattle.coap_client.specs.declared.state.State.{State}
 use Rattle.coap_client.specs.Exchange.{IsNew}
-use Rattle.tm_derive.specs.Segments.{is_plain_segment}
+use Rattle.wot_forms.specs.Segments.{is_plain_segment}
 use Rattle.servient_plan.specs.declared.plan.Plan.{Plan}
 use Rattle.servient_plan.specs.BuiltIn.{built_in_plan}
 use Rattle.servient_core.specs.declared.layers.Layers.{Layers}

@@ -2,7 +2,7 @@
 
 ghost use Rattle.std.specs.Prelude.{◌≡◌, true, IfOk};
 ghost use Rattle.std.specs.List.{AllByRecursion};
-ghost use Rattle.tm_derive.specs.Segments.{is_plain_segment};
+ghost use Rattle.wot_forms.specs.Segments.{is_plain_segment};
 ghost use Rattle.wot_terms.specs.Faults.{IsValid};
 ghost use Rattle.thing_site.specs.Fits.{Fits};
 ghost use Rattle.servient_rehearsal.specs.Moves.{AreShort};

@@ -3,7 +3,7 @@
 ghost use Rattle.std.specs.Prelude.{◌≡◌, ◌++◌, [], List, true, IfOk, OnOk};
 ghost use Rattle.servient_core.specs.Trace.{Outside};
 ghost use Rattle.std.specs.List.{AllByRecursion};
-ghost use Rattle.tm_derive.specs.Segments.{is_plain_segment};
+ghost use Rattle.wot_forms.specs.Segments.{is_plain_segment};
 ghost use Rattle.wot_terms.specs.Faults.{IsValid};
 ghost use Rattle.wot_terms.specs.ThingLists.{kept_thing, kept_things};
 ghost use Rattle.servient_plan.specs.Plan.{MayBeServed};

@@ -8,8 +8,7 @@ use Rattle.wot_json.specs.Tree.{Json}
 use Rattle.core_links.specs.Links.{IsLinkText, is_target_byte}
 use Rattle.core_links.specs.Writing.{CanBeWritten, further_text, is_link, link_text}
 use Rattle.core_links.proofs.ReadsBack.{text_is, read_back}
-use Rattle.tm_derive.specs.Segments.{is_plain_segment, is_segment_byte}
-use Rattle.tm_derive.specs.Submodels.{is_name_byte}
+use Rattle.wot_forms.specs.Segments.{is_name_byte, is_plain_segment, is_segment_byte}
 use Rattle.thing_site.specs.Site.{Site, Slots, exposed, site_of}
 use Rattle.wot_terms.specs.declared.thing.Thing.{Thing}
 use Rattle.wot_terms.specs.ThingLists.{kept_things, segments_in}

@@ -9,7 +9,7 @@ use Rattle.core_links.specs.declared.reading.LinkFault.{LinkFault}
 use Rattle.core_links.specs.declared.reading.LinkFault.TheVariants.{NoMemory}
 use Rattle.core_links.specs.Links.{ReadsLinks}
 use Rattle.core_links.specs.Writing.{links_text}
-use Rattle.tm_derive.specs.Segments.{is_plain_segment}
+use Rattle.wot_forms.specs.Segments.{is_plain_segment}
 use Rattle.thing_site.specs.Site.{Site}
 
 -- a parameter of a link

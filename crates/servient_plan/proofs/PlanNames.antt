@@ -3,8 +3,8 @@ use Rattle.std.proofs.Common.{◌≡◌, ◌∙◌, ℕ, ◌<◌, List, [], ◌�
 use Rattle.std.specs.Prelude.{◌||◌, ◌==◌, IfOk, nat_lt, nat_le, not, if◌then◌else◌}
 use Rattle.std.specs.List.{list_all}
 use Rattle.std.proofs.lemmas.Bool.{and_parts}
-use Rattle.tm_derive.specs.Segments.{is_plain_segment, is_segment_byte}
-use Rattle.tm_derive.specs.Submodels.{is_name_byte}
+use Rattle.wot_forms.specs.Segments.{is_name_byte, is_plain_segment}
+use Rattle.wot_forms.proofs.PlainSegments.{plain_name}
 use Rattle.servient_plan.specs.declared.plan.PlanFault.{PlanFault}
 use Rattle.servient_plan.specs.declared.plan.PlanFault.TheVariants.{At, NoMemory}
 use Rattle.servient_plan.specs.declared.texts.TextRow.{TextRow}
@@ -34,15 +34,6 @@ is_taken r name found value (Err (At p)) taken is = tt
 is_taken r name found value (Err NoMemory) taken is = tt
 
 -- ---- the segment of the root
-
-both_true : (a b : Bool) → a ≡ true → b ≡ true → (a && b) ≡ true
-both_true a b one other = ap (λ (x : Bool). x && b) one ∙ other
-
-plain_name : (name : List ℕ) → list_all is_name_byte name ≡ true → is_plain_segment name ≡ true
-plain_name [] is = refl
-plain_name (b ∷ bs) is =
-    let both = and_parts (is_name_byte b) (list_all is_name_byte bs) is in
-    both_true (is_segment_byte b) (is_plain_segment bs) (ap (λ (x : Bool). x || b == 126) both.0) (plain_name bs both.1)
 
 pub root_is_plain : (segment : List ℕ) → is_root_segment segment ≡ true → is_plain_segment segment ≡ true
 root_is_plain segment is =

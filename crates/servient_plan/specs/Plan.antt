@@ -9,8 +9,7 @@ use Rattle.wot_json.specs.Tree.{Json, integer, string, array, object, Elements, 
 use Rattle.wot_json.specs.Lookup.{member_list, member_named}
 use Rattle.wot_json.specs.Merge.{members_under}
 use Rattle.wot_terms.specs.Affordances.{part}
-use Rattle.tm_derive.specs.Segments.{is_plain_segment}
-use Rattle.tm_derive.specs.Submodels.{is_name_byte}
+use Rattle.wot_forms.specs.Segments.{is_name_byte, is_plain_segment}
 use Rattle.servient_outside.specs.declared.place.Place.{Place}
 use Rattle.servient_plan.specs.declared.plan.Plan.{Plan}
 use Rattle.servient_plan.specs.declared.plan.Names.{Names}

@@ -8,9 +8,8 @@ ghost use Rattle.servient_plan.specs.BuiltIn.{built_in_plan, built_in_model as m
 use crate::{ModelFiles, Plan};
 use std::alloc::{AllocError, Global};
 use thing_site::Slots;
-use tm_derive::{Choices, Frame};
-use tm_parts::Bindings;
-use wot_forms::Bases;
+use tm_parts::{Bindings, Choices};
+use wot_forms::{Bases, Frame};
 use wot_json::{NoMemory, Text, Tree, read};
 
 /// The Thing Model, as JSON.

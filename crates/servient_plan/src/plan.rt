@@ -5,7 +5,7 @@ ghost use Rattle.wot_json.specs.Meaning.{json_of};
 ghost use Rattle.wot_json.specs.Merge.{members_under};
 ghost use Rattle.servient_plan.specs.Plan.{plan_of, place_of, Reads, MayBeServed};
 ghost use Rattle.servient_plan.specs.Plan as spec;
-ghost use Rattle.tm_derive.specs.Segments.{is_plain_segment};
+ghost use Rattle.wot_forms.specs.Segments.{is_plain_segment};
 
 use crate::texts::{TextRow, base_point};
 use crate::values::{
@@ -17,9 +17,8 @@ use std::alloc::{AllocError, Global};
 use std::marker::Model;
 use thing_site::Slots;
 use thiserror::Error;
-use tm_derive::{Choices, Frame};
-use tm_parts::Bindings;
-use wot_forms::Bases;
+use tm_parts::{Bindings, Choices};
+use wot_forms::{Bases, Frame};
 use wot_json::{NoMemory, Text, Tree};
 
 /// A plan (docs/PROFILE.md, "The plan").

@@ -1,11 +1,10 @@
 //! The members of a plan that are texts, and the texts that each may be.
 
 ghost use Rattle.std.specs.Prelude.{◌≡◌, MatchOption, None, Some};
-ghost use Rattle.std.specs.List.{list_all};
-ghost use Rattle.tm_derive.specs.Submodels as submodels;
 ghost use Rattle.servient_plan.specs.Plan as spec;
 
 use servient_base::point_in;
+use wot_forms::has_name_bytes;
 
 /// The most bytes of the segment of the root.
 const MOST_SEGMENT: usize = 64;
@@ -46,20 +45,6 @@ impl TextRow {
             TextRow::Root => true,
         }
     }
-}
-
-/// A byte that a segment may have.
-fn is_name_byte(byte: u8) -> bool
-    ensures { result ≡ submodels.is_name_byte byte }
-{
-    byte.is_ascii_alphanumeric() || byte == b'.' || byte == b'_' || byte == b'-'
-}
-
-/// All bytes are such that a segment may have.
-fn has_name_bytes(text: &[u8]) -> bool
-    ensures { result ≡ list_all submodels.is_name_byte text.now }
-{
-    text.iter().all(|byte| is_name_byte(*byte))
 }
 
 /// The text is a segment that the root can't have.

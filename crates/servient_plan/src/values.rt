@@ -11,8 +11,7 @@ use crate::plan::{ModelFiles, PlanFault};
 use crate::texts::TextRow;
 use std::alloc::Global;
 use thing_site::Slots;
-use tm_derive::Choices;
-use tm_parts::Bindings;
+use tm_parts::{Bindings, Choices};
 use wot_json::{Items, NoMemory, Text, Tree, copy};
 
 /// The most models of a plan.

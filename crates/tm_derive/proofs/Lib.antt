@@ -5,5 +5,6 @@ pub mod Gathering
 pub mod Putting
 pub mod OneThing
 pub mod WholeDerivation
+mod SegmentsBelow
 pub mod NoFaults
 pub mod EnoughBelow

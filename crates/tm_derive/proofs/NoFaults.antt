@@ -1,10 +1,10 @@
 -- Things of a derivation without a fault: the root is the first, no two have the same segment, each segment has only plain
 -- bytes where that of the root has, and each description is valid.
-use Rattle.std.proofs.Common.{◌≡◌, ◌≢◌, ℕ, ◌+◌, ◌<◌, List, [], ◌∷◌, ◌++◌, map, take, refl, sym, ap, subst, ◌∙◌, append_assoc, arith}
-use Rattle.std.specs.Prelude.{⊤, nat_lt, nat_le, length, Bool, true, false, ◌&&◌, ◌||◌, ◌==◌, Option, Some, None, Result, Ok, Err, IfOk, zero, suc, AllPairs, if◌then◌else◌}
-use Rattle.std.specs.List.{AllByRecursion, flat_map, list_all, list_any}
+use Rattle.std.proofs.Common.{◌≡◌, ◌≢◌, ℕ, ◌+◌, List, [], ◌∷◌, ◌++◌, map, take, refl, sym, ap, subst, ◌∙◌, arith}
+use Rattle.std.specs.Prelude.{⊤, nat_lt, nat_le, length, Bool, true, false, ◌&&◌, ◌||◌, Option, Some, None, Result, Ok, Err, IfOk, zero, suc, AllPairs, if◌then◌else◌}
+use Rattle.std.specs.List.{AllByRecursion, flat_map, list_all}
 use Rattle.std.specs.Str.{bytes_eq}
-use Rattle.std.proofs.lemmas.List.{append-nil, append_cancel_left, map-append}
+use Rattle.std.proofs.lemmas.List.{append-nil, map-append}
 use Rattle.std.proofs.lemmas.Bool.{and_parts}
 use Rattle.std.proofs.lemmas.Grind.{flat_map-append}
 use Rattle.std.proofs.lemmas.List.Elements.{All-from_recursion}
@@ -21,142 +21,13 @@ use Rattle.tm_resolve.specs.declared.fault.ResolveFault.{ResolveFault}
 use Rattle.wot_terms.specs.Faults.{faults_of, IsValid}
 use Rattle.tm_derive.specs.Given.{Choice, Given, most_below}
 use Rattle.tm_derive.specs.Optional.{is_among}
-use Rattle.tm_derive.specs.Submodels.{allowed_name, below, child_name, children_from, instance_name, is_name_byte, link_child, link_faults, link_kind, may_name, name_faults, named_child, segments_of, submodel_faults, target_faults}
-use Rattle.tm_derive.specs.Segments.{is_plain_segment, is_segment_byte}
+use Rattle.tm_derive.specs.Submodels.{allowed_name, below, child_name, children_from, instance_name, link_child, link_faults, link_kind, may_name, name_faults, named_child, segments_of, submodel_faults, target_faults}
+use Rattle.wot_forms.specs.Segments.{is_name_byte, is_plain_segment}
 use Rattle.tm_derive.specs.Derivation.{Outcome, Things, all_faults, children, choosing_faults, derived, invalid_fault, outcome, outcomes, outcomes_within, root_place, submodels, thing_faults, thing_of, thing_tree, things_or_fault, tree_faults, tree_of, unbound_faults, unless_faulty}
-use Rattle.tm_derive.specs.declared.frame.Frame.{Frame}
+use Rattle.wot_forms.specs.declared.frame.Frame.{Frame}
 use Rattle.tm_derive.specs.declared.place.ThingPlace.{ThingPlace}
 use Rattle.tm_derive.specs.declared.fault.DeriveFault.{DeriveFault}
-use Rattle.tm_derive.specs.declared.fault.DeriveFault.TheVariants.{TwiceInstance}
-
--- ---- lists
-
--- none of both is none of each
-none_first : {A : Type 0} (xs ys : List A) → xs ++ ys ≡ [] → xs ≡ []
-none_first [] ys none = refl
-none_first (x ∷ xs) ys none = absurd (cc)
-
-none_second : {A : Type 0} (xs ys : List A) → xs ++ ys ≡ [] → ys ≡ []
-none_second [] ys none = none
-none_second (x ∷ xs) ys none = absurd (cc)
-
-none_of_map : {A B : Type 0} (f : A → B) (xs : List A) → map f xs ≡ [] → xs ≡ []
-none_of_map f [] none = refl
-none_of_map f (x ∷ xs) none = absurd (cc)
-
--- a property of each, and of each of two lists
-each : {A : Type 0} (P Q : A → Type 0) → ((x : A) → P x → Q x) → (xs : List A) → AllByRecursion P xs → AllByRecursion Q xs
-each P Q f [] all = tt
-each P Q f (x ∷ xs) all = (f x all.0, each P Q f xs all.1)
-
-each_of_both : {A : Type 0} (P : A → Type 0) (xs ys : List A) → AllByRecursion P xs → AllByRecursion P ys → AllByRecursion P (xs ++ ys)
-each_of_both P [] ys all more = more
-each_of_both P (x ∷ xs) ys all more = (all.0, each_of_both P xs ys all.1 more)
-
--- no two of these texts are the same
-abbrev pub Differ : List (List ℕ) → Type 0
-Differ [] = ⊤
-Differ (x ∷ xs) = AllByRecursion (λ y. x ≢ y) xs × Differ xs
-
-differ_in_both : (xs ys : List (List ℕ)) → Differ xs → Differ ys → AllByRecursion (λ x. AllByRecursion (λ y. x ≢ y) ys) xs → Differ (xs ++ ys)
-differ_in_both [] ys first next apart = next
-differ_in_both (x ∷ xs) ys first next apart = (each_of_both (λ y. x ≢ y) xs ys first.0 apart.0, differ_in_both xs ys first.1 next apart.1)
-
--- ---- segments
-
-and_both : (a b : Bool) → a ≡ true → b ≡ true → (a && b) ≡ true
-and_both a b one other = ap (λ (x : Bool). x && b) one ∙ other
-
--- the bytes after the segment of a Thing in those of the Things below it
-abbrev pub IsTail : List ℕ → Type 0
-IsTail [] = ⊤
-IsTail (b ∷ bs) = (b ≡ 126) × (is_plain_segment bs ≡ true)
-
--- the segment of a Thing, or of one below it
-abbrev pub IsAtOrBelow : List ℕ → List ℕ → Type 0
-IsAtOrBelow segment s = (tail : List ℕ) × (s ≡ segment ++ tail) × IsTail tail
-
--- the segment of a Thing that the Thing of this segment is composed of
-abbrev pub IsChild : List ℕ → List ℕ → Type 0
-IsChild segment s = (name : List ℕ) × (s ≡ below segment name) × (list_all is_name_byte name ≡ true)
-
--- a name has no `~`
-no_tilde : (b : ℕ) (name : List ℕ) → b ≡ 126 → list_all is_name_byte (b ∷ name) ≡ true → ⊥
-no_tilde b name is ok =
-    let byte : is_name_byte b ≡ true = (and_parts (is_name_byte b) (list_all is_name_byte name) ok).0 in
-    let is_one : is_name_byte 126 ≡ true = subst (λ (c : ℕ). is_name_byte c ≡ true) is byte in
-    absurd (cc)
-
-abbrev head_of : List ℕ → ℕ
-head_of [] = 0
-head_of (b ∷ bs) = b
-
-abbrev tail_of : List ℕ → List ℕ
-tail_of [] = []
-tail_of (b ∷ bs) = bs
-
-same_name : (xs ys r s : List ℕ) → list_all is_name_byte xs ≡ true → list_all is_name_byte ys ≡ true → IsTail r → IsTail s → xs ++ r ≡ ys ++ s → xs ≡ ys
-same_name [] [] r s one other rt st is = refl
-same_name [] (y ∷ ys) [] s one other rt st is = absurd (cc)
-same_name [] (y ∷ ys) (b ∷ r) s one other rt st is = absurd (no_tilde y ys (sym (ap head_of is) ∙ rt.0) other)
-same_name (x ∷ xs) [] r [] one other rt st is = absurd (cc)
-same_name (x ∷ xs) [] r (b ∷ s) one other rt st is = absurd (no_tilde x xs (ap head_of is ∙ st.0) one)
-same_name (x ∷ xs) (y ∷ ys) r s one other rt st is =
-    let rest : xs ≡ ys = same_name xs ys r s (and_parts (is_name_byte x) (list_all is_name_byte xs) one).1 (and_parts (is_name_byte y) (list_all is_name_byte ys) other).1 rt st (ap tail_of is) in
-    let first : x ≡ y = ap head_of is in
-    ap (λ (b : ℕ). b ∷ xs) first ∙ ap (λ (bs : List ℕ). y ∷ bs) rest
-
--- ---- plain bytes
-
-plain_byte : (b : ℕ) → is_name_byte b ≡ true → is_segment_byte b ≡ true
-plain_byte b is = ap (λ (x : Bool). x || b == 126) is
-
--- a name is plain
-plain_name : (name : List ℕ) → list_all is_name_byte name ≡ true → is_plain_segment name ≡ true
-plain_name [] is = refl
-plain_name (b ∷ bs) is =
-    let both = and_parts (is_name_byte b) (list_all is_name_byte bs) is in
-    and_both (is_segment_byte b) (is_plain_segment bs) (plain_byte b both.0) (plain_name bs both.1)
-
--- and so are two plain texts together
-plain_both : (xs ys : List ℕ) → is_plain_segment xs ≡ true → is_plain_segment ys ≡ true → is_plain_segment (xs ++ ys) ≡ true
-plain_both [] ys one other = other
-plain_both (x ∷ xs) ys one other =
-    let both = and_parts (is_segment_byte x) (is_plain_segment xs) one in
-    and_both (is_segment_byte x) (is_plain_segment (xs ++ ys)) both.0 (plain_both xs ys both.1 other)
-
-plain_tail : (tail : List ℕ) → IsTail tail → is_plain_segment tail ≡ true
-plain_tail [] is = refl
-plain_tail (b ∷ bs) is = and_both (is_segment_byte b) (is_plain_segment bs) (ap is_segment_byte is.0) is.1
-
--- a segment at or below a plain one is plain
-plain_below : (segment : List ℕ) → is_plain_segment segment ≡ true → (s : List ℕ) → IsAtOrBelow segment s → is_plain_segment s ≡ true
-plain_below segment plain s at = ap is_plain_segment at.1 ∙ plain_both segment at.0 plain (plain_tail at.0 at.2)
-
--- a segment at or below a child is below the parent
-after_parent : (segment child : List ℕ) (is : IsChild segment child) (s : List ℕ) (at : IsAtOrBelow child s) → s ≡ segment ++ (126 ∷ (is.0 ++ at.0))
-after_parent segment child is s at =
-    at.1
-    ∙ ap (λ (c : List ℕ). c ++ at.0) (is.1 ∙ append_assoc segment (126 ∷ []) is.0)
-    ∙ append_assoc segment (126 ∷ is.0) at.0
-
-below_child : (segment child : List ℕ) → IsChild segment child → (s : List ℕ) → IsAtOrBelow child s → IsAtOrBelow segment s
-below_child segment child is s at = (126 ∷ (is.0 ++ at.0), after_parent segment child is s at, (refl, plain_both is.0 at.0 (plain_name is.0 is.2) (plain_tail at.0 at.2)))
-
--- and not that of the parent
-not_parent : (segment child : List ℕ) → IsChild segment child → (s : List ℕ) → IsAtOrBelow child s → segment ≢ s
-not_parent segment child is s at same =
-    let none : [] ≡ 126 ∷ (is.0 ++ at.0) = append_cancel_left segment [] (126 ∷ (is.0 ++ at.0)) (append-nil segment ∙ same ∙ after_parent segment child is s at) in
-    absurd (cc)
-
--- segments at or below two children of one parent differ
-not_sibling : (segment one other : List ℕ) → IsChild segment one → IsChild segment other → one ≢ other → (s t : List ℕ) → IsAtOrBelow one s → IsAtOrBelow other t → s ≢ t
-not_sibling segment one other is_one is_other apart s t at_one at_other same =
-    let whole : 126 ∷ (is_one.0 ++ at_one.0) ≡ 126 ∷ (is_other.0 ++ at_other.0) =
-    append_cancel_left segment (126 ∷ (is_one.0 ++ at_one.0)) (126 ∷ (is_other.0 ++ at_other.0))
-    (sym (after_parent segment one is_one s at_one) ∙ same ∙ after_parent segment other is_other t at_other) in
-    let names : is_one.0 ≡ is_other.0 = same_name is_one.0 is_other.0 at_one.0 at_other.0 is_one.2 is_other.2 at_one.2 at_other.2 (ap tail_of whole) in
-    apart (is_one.1 ∙ ap (below segment) names ∙ sym is_other.1)
+use Rattle.tm_derive.proofs.SegmentsBelow.{none_first, none_second, none_of_map, each, each_of_both, Differ, differ_in_both, IsAtOrBelow, IsChild, plain_below, below_child, not_parent, not_sibling}
 
 -- ---- the children of a Thing
 

@@ -13,7 +13,7 @@ use Rattle.tm_derive.specs.Making.{Derives}
 use Rattle.tm_derive.specs.Optional.{choices_elsewhere}
 use Rattle.tm_derive.specs.Refusals.{IsRefusal}
 use Rattle.wot_terms.specs.ThingLists.{kept_things, segments_in}
-use Rattle.tm_derive.specs.declared.frame.Frame.{Frame}
+use Rattle.wot_forms.specs.declared.frame.Frame.{Frame}
 use Rattle.tm_derive.specs.declared.place.ThingPlace.{ThingPlace}
 use Rattle.wot_terms.specs.declared.thing.Thing.{Thing}
 use Rattle.tm_derive.specs.declared.fault.DeriveFault.{DeriveFault}

@@ -18,7 +18,7 @@ use Rattle.tm_derive.specs.Optional.{optional_texts, optional_faults, unlisted_c
 use Rattle.tm_derive.specs.Dropping.{is_left_out, chosen_value}
 use Rattle.tm_derive.specs.Submodels.{children_from, segments_of, submodel_faults}
 use Rattle.tm_derive.specs.Finishing.{indices_of, description}
-use Rattle.tm_derive.specs.declared.frame.Frame.{Frame}
+use Rattle.wot_forms.specs.declared.frame.Frame.{Frame}
 use Rattle.tm_derive.specs.declared.place.ThingPlace.{ThingPlace}
 use Rattle.tm_derive.specs.declared.fault.DeriveFault.{DeriveFault}
 use Rattle.tm_derive.specs.declared.fault.DeriveFault.TheVariants as fault

@@ -10,7 +10,7 @@ use Rattle.tm_resolve.specs.ModelLinks.{ModelLink}
 use Rattle.wot_forms.specs.Generated.{is_object, generated}
 use Rattle.wot_forms.specs.declared.bases.Bases.{Bases}
 use Rattle.tm_derive.specs.Changes.{part_under, change_of}
-use Rattle.tm_derive.specs.declared.frame.Frame.{Frame}
+use Rattle.wot_forms.specs.declared.frame.Frame.{Frame}
 use Rattle.tm_derive.specs.declared.place.ThingPlace.{ThingPlace}
 
 -- ---- `@type`

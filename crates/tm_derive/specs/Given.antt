@@ -3,7 +3,7 @@ use Rattle.std.specs.Prelude.{ℕ, ◌+◌, List}
 use Rattle.tm_parts.specs.Library.{Models}
 use Rattle.tm_parts.specs.Sources.{Sources}
 use Rattle.tm_resolve.specs.Weight.{most_entries}
-use Rattle.tm_derive.specs.declared.frame.Frame.{Frame}
+use Rattle.wot_forms.specs.declared.frame.Frame.{Frame}
 
 -- a choice: the segment of a Thing, and the pointer to an affordance that is optional there and is to stay
 abbrev pub Choice : Type 0

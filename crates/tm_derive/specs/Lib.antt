@@ -3,7 +3,6 @@ pub mod Changes
 pub mod Optional
 pub mod Dropping
 pub mod Submodels
-pub mod Segments
 pub mod Finishing
 pub mod Derivation
 pub mod Refusals

@@ -2,10 +2,10 @@
 -- Model", composition).
 use Rattle.std.specs.Prelude.{◌+◌, ◌==◌, ◌&&◌, ◌||◌, nat_lt, nat_le, Bool, ℕ, List, [], ◌∷◌, ◌++◌, length, map, codes, decimal, is_none, Option, Some, None, if◌then◌else◌}
 use Rattle.std.specs.List.{list_all}
-use Rattle.std.specs.Char.{is_ascii_alphanumeric}
 use Rattle.std.specs.Str.{bytes_eq}
 use Rattle.wot_json.specs.Tree.{Json, string}
 use Rattle.wot_json.specs.Lookup.{member_named}
+use Rattle.wot_forms.specs.Segments.{is_name_byte}
 use Rattle.tm_parts.specs.Library.{Models}
 use Rattle.tm_resolve.specs.Links.{link_place}
 use Rattle.tm_resolve.specs.ModelLinks.{ModelLink}
@@ -24,10 +24,6 @@ abbrev pub instance_name : ℕ → Option Json → Option (List ℕ)
 instance_name number None = Some (codes "sub" ++ decimal number)
 instance_name number (Some (string name)) = Some name
 instance_name number (Some v) = None
-
--- a byte of an instance name
-abbrev pub is_name_byte : ℕ → Bool
-is_name_byte b = is_ascii_alphanumeric b || b == 46 || b == 95 || b == 45
 
 -- the segment and the id of a Thing that the Thing of this segment or id is composed of
 abbrev pub below : List ℕ → List ℕ → List ℕ

@@ -1,10 +1,9 @@
 //! The inputs that all Things of a derivation share.
 
-use crate::choices::Choices;
-use crate::frame::Frame;
 use std::alloc::Global;
-use tm_parts::Library;
+use tm_parts::{Choices, Library};
 use tm_resolve::Resolver;
+use wot_forms::Frame;
 
 /// The inputs that all Things of a derivation share.
 #[derive(Drop)]

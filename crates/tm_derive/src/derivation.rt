@@ -7,21 +7,20 @@ ghost use Rattle.tm_derive.specs.Kept.{given_of};
 ghost use Rattle.tm_derive.specs.Making.{Derives, PutsThings};
 ghost use Rattle.tm_derive.specs.Optional.{is_among, choices_elsewhere};
 ghost use Rattle.tm_derive.specs.Refusals.{Finds};
-ghost use Rattle.tm_derive.specs.Segments.{is_plain_segment};
+ghost use Rattle.wot_forms.specs.Segments.{is_plain_segment};
 ghost use Rattle.wot_terms.specs.Faults.{IsValid};
 ghost use Rattle.wot_terms.specs.ThingLists.{segments_in};
 
-use crate::choices::Choices;
 use crate::common::Common;
 use crate::fault::DeriveFault;
-use crate::frame::Frame;
 use crate::making::{make_thing, most_below};
 use crate::place::ThingPlace;
 use crate::refusals::optional_fault;
 use servient_base::NoMemory;
 use std::alloc::Global;
-use tm_parts::{Bindings, Library};
+use tm_parts::{Bindings, Choices, Library};
 use tm_resolve::Resolver;
+use wot_forms::Frame;
 use wot_json::Text;
 use wot_terms::{Thing, Things};
 

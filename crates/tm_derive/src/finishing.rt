@@ -8,12 +8,11 @@ ghost use Rattle.tm_derive.specs.Submodels.{segments_of};
 ghost use Rattle.tm_derive.specs.Finishing as spec;
 
 use crate::changes::push_change;
-use crate::frame::Frame;
 use crate::links::{links_change, new_links};
 use crate::place::ThingPlace;
 use servient_base::NoMemory;
 use std::alloc::Global;
-use wot_forms::generate;
+use wot_forms::{Frame, generate};
 use wot_json::{Items, Members, Text, Tree, copy, merge_patch};
 
 /// The place of a Thing among others, as its description says it.

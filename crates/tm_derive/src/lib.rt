@@ -31,13 +31,11 @@
 #![tactic(auto)]
 
 mod changes;
-mod choices;
 mod common;
 mod derivation;
 mod dropping;
 mod fault;
 mod finishing;
-mod frame;
 mod judging;
 mod laws;
 mod links;
@@ -48,10 +46,10 @@ mod place;
 mod refusals;
 mod submodels;
 
-pub use choices::Choices;
 pub use derivation::derive;
 pub use fault::DeriveFault;
-pub use frame::Frame;
 pub use laws::more_room_changes_nothing;
 pub use servient_base::NoMemory;
+pub use tm_parts::Choices;
+pub use wot_forms::Frame;
 pub use wot_terms::{Thing, Things};

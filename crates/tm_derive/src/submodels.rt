@@ -1,7 +1,6 @@
 //! The Things that a Thing is composed of, by the links of its model.
 
 ghost use Rattle.std.specs.Prelude.{◌≡◌, ◌⊎◌, ◌++◌, [], ◌∷◌, option_map, codes, decimal, IfOk, OnOk};
-ghost use Rattle.std.specs.List.{list_all};
 ghost use Rattle.wot_json.specs.Meaning.{json_of};
 ghost use Rattle.tm_resolve.specs.Links.{link_place as place_of_link};
 ghost use Rattle.tm_resolve.specs.ModelLinks.{kept_link, kept_links};
@@ -18,6 +17,7 @@ use servient_base::NoMemory;
 use std::alloc::Global;
 use tm_parts::Library;
 use tm_resolve::{CountedLink, ResolveFault, ResolveKind};
+use wot_forms::has_name_bytes;
 use wot_json::{Text, Tree, below_index};
 
 /// The most bytes of an instance name.
@@ -45,20 +45,6 @@ fn default_name(alloc: Global, number: usize) -> Result<Text, NoMemory>
     let mut name = String::from_str(alloc, "sub")?;
     name.push_str(buffer.format(number))?;
     Ok(Text::from_string(name))
-}
-
-/// A byte that an instance name may have.
-fn is_name_byte(byte: u8) -> bool
-    ensures { result ≡ spec.is_name_byte byte }
-{
-    byte.is_ascii_alphanumeric() || byte == b'.' || byte == b'_' || byte == b'-'
-}
-
-/// All bytes are such that an instance name may have.
-fn has_name_bytes(name: &[u8]) -> bool
-    ensures { result ≡ list_all spec.is_name_byte name.now }
-{
-    name.iter().all(|byte| is_name_byte(*byte))
 }
 
 /// A Thing of this segment may have an instance of this name.

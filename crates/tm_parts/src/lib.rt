@@ -25,6 +25,7 @@
 
 mod bindings;
 mod building;
+mod choices;
 mod holes;
 mod judging;
 mod library;
@@ -37,6 +38,7 @@ mod values;
 mod view;
 
 pub use bindings::Bindings;
+pub use choices::Choices;
 pub use holes::first_hole;
 pub use library::{AddFault, Library};
 pub use location::Location;

@@ -1,3 +1,4 @@
 pub mod NamedOps
 pub mod FormLists
 pub mod PatchedForms
+pub mod PlainSegments

@@ -4,3 +4,4 @@ pub mod OpCodes
 pub mod FormCodes
 pub mod Generated
 pub mod FormsPatch
+pub mod Segments

@@ -42,7 +42,7 @@ impl Choices {
     }
 
     /// The segments and pointers.
-    pub(crate) fn as_slice(&self) -> &[(Text, Text)]
+    pub fn as_slice(&self) -> &[(Text, Text)]
         ensures { result.now ≡ self.now }
     {
         self.list.as_slice()

@@ -1,9 +1,9 @@
-//! The inputs of a derivation besides the models: names, ids and addresses of its Things.
+//! The names of Things that are served together, and the addresses at which they are.
 
-use wot_forms::Bases;
+use crate::Bases;
 use wot_json::Text;
 
-/// The names of the root Thing, and the addresses at which it and the Things that it is composed of are served.
+/// The names of a root Thing, and the addresses at which it and the Things that it is composed of are served.
 #[derive(Debug, Drop)]
 pub struct Frame {
     /// The segment of the root in the paths of its URLs. A Thing below another has the segment of that, `~`, and its

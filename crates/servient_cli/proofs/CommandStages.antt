@@ -9,29 +9,31 @@ use Rattle.servient_outside.specs.Network.{break_count}
 use Rattle.wot_terms.specs.declared.kind.Kind.{Kind}
 use Rattle.thing_site.specs.Site.{expose_faults}
 use Rattle.thing_site.specs.Exposing.{kinds_of}
-use Rattle.servient_core.specs.Trace.{happened_in}
-use Rattle.servient_cli.specs.declared.replay.Inputs.{Inputs}
+use Rattle.servient_trace.specs.Trace.{happened_in}
+use Rattle.command_stages.specs.declared.inputs.Inputs.{Inputs}
 use Rattle.command_words.specs.Grammar.{meaning_of}
 use Rattle.command_words.specs.declared.command.Command.{Command}
 use Rattle.command_words.specs.declared.command.Command.TheVariants.{Replay, Serve, Derive, Check, Consume, Storm, Discover}
-use Rattle.servient_cli.specs.Stages.{Deed, did_write, sightings_in, HasFailed, Outcome, ends, Around}
-use Rattle.servient_cli.specs.declared.ending.Ending.{Ending}
-use Rattle.servient_cli.specs.declared.ending.Ended.{Ended}
+use Rattle.command_stages.specs.Stages.{Deed, did_write, sightings_in, HasFailed, Outcome, ends, Around}
+use Rattle.command_stages.specs.declared.ending.Ending.{Ending}
+use Rattle.command_stages.specs.declared.ending.Ended.{Ended}
 use Rattle.command_words.specs.declared.command.Budget.{Budget}
 use Rattle.command_words.specs.declared.fault.WordsFault.{WordsFault}
 use Rattle.command_words.specs.declared.fault.WordsFault.TheVariants.{Usage, NoMemory}
 use Rattle.command_words.specs.Parts.{Reads}
-use Rattle.servient_cli.specs.Words.{EndsAs}
-use Rattle.servient_cli.specs.Lines.{memory_line, usage_line}
-use Rattle.servient_cli.specs.Ending.{EndsBy, final_status, final_text, status_of, text_of}
-use Rattle.servient_cli.proofs.StageLaws.{ends_so, line_alone, shows_wrote, shows_net}
-use Rattle.servient_cli.specs.Reading.{ReadsFile, ReadsTree, longest_json}
-use Rattle.servient_cli.specs.Replaying.{plan_name, ReadsInputs, run_events, RunsOn}
-use Rattle.servient_cli.specs.Checking.{Checks, IsFaultlessDescription, Judges}
-use Rattle.servient_cli.specs.Deriving.{ReadsPlanned, Derives, derived_of, Prints, DerivesAndPrints}
+use Rattle.command_stages.specs.Words.{EndsAs}
+use Rattle.command_stages.specs.Lines.{memory_line, usage_line}
+use Rattle.command_stages.specs.Ending.{EndsBy, final_status, final_text, status_of, text_of}
+use Rattle.command_stages.proofs.StageLaws.{ends_so, line_alone, shows_wrote, shows_net}
+use Rattle.command_stages.specs.Reading.{ReadsFile, ReadsTree, longest_json}
+use Rattle.command_stages.specs.Inputs.{plan_name, ReadsInputs}
+use Rattle.servient_cli.specs.Replaying.{run_events, RunsOn}
+use Rattle.command_stages.specs.Checking.{Checks, IsFaultlessDescription, Judges}
+use Rattle.command_stages.specs.Deriving.{ReadsPlanned, Derives, derived_of, Prints, DerivesAndPrints}
 use Rattle.servient_outside.specs.Out.{OutSeen, NoWriteFailed}
 use Rattle.servient_cli.specs.Command.{reads_files, IsFaultless, HasFaultlessFiles, IsReported, Ends, NothingFailed, IsAnswered, IsWell, Does, Commands, EndsAndReports, is_asking, is_discovering, is_networked, is_serving, is_no_command, is_command, words_memory}
-use Rattle.servient_cli.proofs.FaultlessStages.{GoesOn, EndsWell, by_memory, same_status, HasTrouble, what_trouble, rose_some, then_well, read_well, tree_well, judge_well, derive_well, print_well, planned_well, with_events, inputs_well, run_on_well}
+use Rattle.command_stages.proofs.FaultlessReading.{GoesOn, EndsWell, by_memory, same_status, HasTrouble, what_trouble, rose_some, then_well, read_well, tree_well, judge_well, derive_well, print_well}
+use Rattle.servient_cli.proofs.FaultlessStages.{planned_well, with_events, inputs_well, run_on_well}
 use Rattle.servient_base.specs.Count.{Rose}
 use Rattle.servient_cli.proofs.FaultlessConsuming.{IsConsumed, MayEnd, consume_well, discover_well}
 use Rattle.servient_cli.proofs.ServedStages.{IsServed, serving_well}

@@ -28,8 +28,8 @@ use Rattle.servient_outside.proofs.FilesLaws.{no_read_failed_same}
 use Rattle.servient_outside.proofs.OutLaws.{no_write_failed_then}
 use Rattle.servient_outside.specs.Out.{OutSeen, OutShows, NoWriteFailed}
 use Rattle.servient_outside.proofs.ToldLaws.{continues_same, continues_then}
-use Rattle.servient_core.specs.Trace.{at_network, outside}
-use Rattle.servient_core.specs.Sections.{Shown, saw as was_seen, shown_of, section}
+use Rattle.servient_trace.specs.Trace.{at_network, outside}
+use Rattle.servient_trace.specs.ShownSections.{Shown, saw as was_seen, shown_of, section}
 use Rattle.network_consumer.specs.declared.operation.ThingOperation.{ThingOperation}
 use Rattle.network_consumer.specs.declared.consumed.Consumed.{Consumed}
 use Rattle.network_consumer.specs.declared.consumed.Consumed.TheVariants as consumed
@@ -38,14 +38,15 @@ use Rattle.network_consumer.specs.Deeds.{happens, prints, sight, put_of}
 use Rattle.network_consumer.specs.Deeds as operation
 use Rattle.network_consumer.specs.Consuming.{Consumes}
 use Rattle.network_consumer.proofs.DeedLaws.{out_none}
-use Rattle.servient_cli.specs.declared.ending.Ending.{Ending}
-use Rattle.servient_cli.specs.declared.ending.Ended.{Ended}
-use Rattle.servient_cli.specs.declared.ending.Ended.TheVariants as ended
-use Rattle.servient_cli.specs.Stages.{Deed, did_write, HasFailed, reads_in, showings_in, text_in, written_in, Outcome, goes_on, ends, AndThen, ends_first, goes_further, Around, around, ShowsDeeds}
-use Rattle.servient_cli.specs.Ending.{ComesOut, Performs, status_of, text_of, final_status, final_text}
+use Rattle.command_stages.specs.declared.ending.Ending.{Ending}
+use Rattle.command_stages.specs.declared.ending.Ended.{Ended}
+use Rattle.command_stages.specs.declared.ending.Ended.TheVariants as ended
+use Rattle.command_stages.specs.Stages.{Deed, did_write, HasFailed, reads_in, showings_in, text_in, written_in, Outcome, goes_on, ends, AndThen, ends_first, goes_further, Around, around, ShowsDeeds}
+use Rattle.command_stages.specs.Ending.{ComesOut, Performs, status_of, text_of, final_status, final_text}
 use Rattle.servient_cli.specs.Command.{IsReported, EndsAndReports}
-use Rattle.servient_cli.specs.Consuming.{ReadsDescription, ConsumesBy, ConsumesThing, Chooses, is_chosen, has_no_affordance, has_no_form, choose_memory, OperatesOn, deeds_of, line_after, status_after, IsAskedFor, EndsAfter, has_ended, line_memory, IsOperated, Operates, IsEndOf, EndsPrinting}
-use Rattle.servient_cli.proofs.StageLaws.{line_alone, shows_network, shows_then, shows_wrote}
+use Rattle.command_stages.specs.Describing.{ReadsDescription}
+use Rattle.servient_cli.specs.Consuming.{ConsumesBy, ConsumesThing, Chooses, is_chosen, has_no_affordance, has_no_form, choose_memory, OperatesOn, deeds_of, line_after, status_after, IsAskedFor, EndsAfter, has_ended, line_memory, IsOperated, Operates, IsEndOf, EndsPrinting}
+use Rattle.command_stages.proofs.StageLaws.{line_alone, shows_network, shows_then, shows_wrote}
 use Rattle.servient_cli.proofs.UsageStages.{EndsPlainly, description_not, choose_not}
 
 -- ---- an operation's deeds as those of a command

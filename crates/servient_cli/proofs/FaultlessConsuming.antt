@@ -23,12 +23,13 @@ use Rattle.network_consumer.specs.Deeds.{happens, prints}
 use Rattle.network_consumer.specs.Deeds as operation
 use Rattle.network_consumer.specs.Consuming.{Consumes, Discovers}
 use Rattle.network_consumer.proofs.FailureLaws.{Breaks, failing_breaks, discovering_breaks}
-use Rattle.servient_cli.specs.Stages.{Deed, Outcome, ends, did_write}
-use Rattle.servient_cli.specs.Reading.{ReadsFile, ReadsTree, longest_json}
-use Rattle.servient_cli.specs.Consuming.{TakesDescription, is_taken, has_fault, description_memory, DescriptionIn, ReadsDescription, ReadsValue, HasInput, has_input, has_no_input, ReadsInput, Chooses, is_chosen, has_no_affordance, has_no_form, choose_memory, deeds_of, status_after, line_after, EndsAfter, has_ended, line_memory, IsOperated, Operates, OperatesOn, ConsumesBy, ConsumesThing}
+use Rattle.command_stages.specs.Stages.{Deed, Outcome, ends, did_write}
+use Rattle.command_stages.specs.Reading.{ReadsFile, ReadsTree, longest_json}
+use Rattle.command_stages.specs.Describing.{TakesDescription, is_taken, has_fault, description_memory, DescriptionIn, ReadsDescription, ReadsValue, HasInput, has_input, has_no_input, ReadsInput}
+use Rattle.servient_cli.specs.Consuming.{Chooses, is_chosen, has_no_affordance, has_no_form, choose_memory, deeds_of, status_after, line_after, EndsAfter, has_ended, line_memory, IsOperated, Operates, OperatesOn, ConsumesBy, ConsumesThing}
 use Rattle.servient_cli.specs.Discovering.{DiscoversThings}
 use Rattle.servient_cli.specs.Command.{HoldsInput, IsFaultlessConsumption, IsAnswered}
-use Rattle.servient_cli.proofs.FaultlessStages.{GoesOn, HasTrouble, trouble_before, then_well, then_goes, read_well, tree_well, no_fault}
+use Rattle.command_stages.proofs.FaultlessReading.{GoesOn, HasTrouble, trouble_before, then_well, then_goes, read_well, tree_well, no_fault}
 
 -- ---- what failed broke the network
 

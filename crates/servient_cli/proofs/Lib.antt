@@ -1,11 +1,10 @@
-pub mod StageLaws
 mod FaultlessStages
 mod ServedStages
 mod CommandStages
 mod ConsumingStages
 mod UsageStages
 mod RunLaws
-mod ModelStages
+mod OpeningStages
 mod CountLaws
 mod StormStages
 mod FaultlessConsuming

@@ -16,7 +16,7 @@ use Rattle.servient_base.specs.Moves.{Refines}
 use Rattle.servient_core.specs.declared.layers.Layers.{Layers}
 use Rattle.servient_core.specs.declared.serving.Served.{Served}
 use Rattle.servient_core.specs.declared.serving.Served.TheVariants as served
-use Rattle.servient_core.specs.Trace.{Sighting, happened_in, calls_in, Outside, Shows, happening_in}
+use Rattle.servient_trace.specs.Trace.{Sighting, happened_in, calls_in, Outside, Shows, happening_in}
 use Rattle.servient_core.specs.Machine.{Site, State, Run}
 use Rattle.servient_core.specs.Serving.{StandsFor, HasNoStop, AreTaken, Serves}
 use Rattle.servient_core.proofs.MachineLaws.{run_keeps}

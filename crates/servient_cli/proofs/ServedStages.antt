@@ -7,22 +7,24 @@ use Rattle.wot_terms.specs.declared.kind.Kind.{Kind}
 use Rattle.thing_site.specs.Site.{expose_faults}
 use Rattle.servient_core.specs.declared.serving.Served.TheVariants as served
 use Rattle.servient_plan.specs.Plan.{place_of}
-use Rattle.servient_core.specs.Trace.{Sighting, at_network, at_handler}
+use Rattle.servient_trace.specs.Trace.{Sighting, at_network, at_handler}
 use Rattle.servient_core.specs.Machine.{Site, State, start}
 use Rattle.servient_core.specs.Serving.{Serves}
 use Rattle.servient_core.specs.declared.sections.RunBounds.{RunBounds}
 use Rattle.servient_core.specs.declared.sections.SectionsEnd.TheVariants as ending
-use Rattle.servient_core.specs.Sections.{Shown, saw as was_seen, forgot, seen_in, ServesInSections}
+use Rattle.servient_trace.specs.ShownSections.{Shown, saw as was_seen, forgot, seen_in}
+use Rattle.servient_core.specs.Sections.{ServesInSections}
 use Rattle.command_words.specs.declared.command.Budget.{Budget}
 use Rattle.command_words.specs.declared.command.Budget.TheVariants as budgets
-use Rattle.servient_cli.specs.declared.derivation.Planned.{Planned}
-use Rattle.servient_cli.specs.Stages.{Deed, did_see, did_write, sees, shows_all, Outcome, ends, AndThen}
-use Rattle.servient_cli.specs.Lines.{network_line}
+use Rattle.command_stages.specs.declared.derivation.Planned.{Planned}
+use Rattle.command_stages.specs.Stages.{Deed, did_see, did_write, sees, shows_all, Outcome, ends, AndThen}
+use Rattle.command_stages.specs.Lines.{network_line}
 use Rattle.servient_cli.specs.Opening.{Opens}
 use Rattle.servient_cli.specs.Listening.{Listens, is_listening, cannot_listen, place_memory, listen_memory, ServesEvents, has_served, Endures, has_endured, ServesBy, ServesPlanned, ServesPlan}
-use Rattle.servient_cli.specs.Deriving.{ReadsPlanned, derived_of}
+use Rattle.command_stages.specs.Deriving.{ReadsPlanned, derived_of}
 use Rattle.servient_cli.specs.Command.{IsFaultlessServing}
-use Rattle.servient_cli.proofs.FaultlessStages.{GoesOn, HasTrouble, trouble_before, trouble_after, then_well, planned_well, open_well}
+use Rattle.command_stages.proofs.FaultlessReading.{GoesOn, HasTrouble, trouble_before, trouble_after, then_well}
+use Rattle.servient_cli.proofs.FaultlessStages.{planned_well, open_well}
 
 -- it ends as it should, has spent its budget, or is out of memory
 abbrev pub IsServed : Outcome (Unit {0}) → Type 0

@@ -20,26 +20,28 @@ use Rattle.servient_outside.specs.declared.net_memory.NetMemory.{NetMemory}
 use Rattle.servient_outside.specs.NetMemory.{left_events, told_history}
 use Rattle.servient_outside.specs.Ending.{last_moment, stop_event, with_stop}
 use Rattle.servient_outside.specs.Out.{OutSeen}
-use Rattle.servient_core.specs.Trace.{Sighting, happened_in, calls_in}
+use Rattle.servient_trace.specs.Trace.{Sighting, happened_in, calls_in}
 use Rattle.servient_core.specs.Machine.{Site, State}
 use Rattle.servient_core.specs.Serving.{Serves}
 use Rattle.servient_core.specs.declared.serving.Served.TheVariants as served
 use Rattle.storm_events.specs.Storm.{events_of}
 use Rattle.storm_events.proofs.StormLaws.{count_is, never_stops}
-use Rattle.servient_cli.specs.declared.derivation.Planned.{Planned}
+use Rattle.command_stages.specs.declared.derivation.Planned.{Planned}
 use Rattle.servient_cli.specs.declared.storming.TheConstants.{STORM_EXCHANGES}
 use Rattle.servient_cli.specs.declared.storming.Load.{Load}
 use Rattle.servient_cli.specs.Counting.{is_datagram, came, counts_by, counts_in}
 use Rattle.servient_script.specs.Script.{has_stop, is_stop, StopsAtEnd}
-use Rattle.servient_cli.specs.Stages.{Around, Deed, Outcome, goes_on, ends, AndThen, ends_first, goes_further}
-use Rattle.servient_cli.specs.Replaying.{run_events, TakesBuiltIn, is_built_in, built_in_memory, built_in, plan_name}
+use Rattle.command_stages.specs.Stages.{Around, Deed, Outcome, goes_on, ends, AndThen, ends_first, goes_further}
+use Rattle.command_stages.specs.Inputs.{TakesBuiltIn, is_built_in, built_in_memory, built_in, plan_name}
+use Rattle.servient_cli.specs.Replaying.{run_events}
 use Rattle.servient_cli.specs.Opening.{Exposes, is_exposed, is_misfit, expose_memory, Opens}
-use Rattle.servient_cli.specs.Deriving.{Derives, is_derived, derive_memory, derived_of}
-use Rattle.servient_cli.specs.Deriving as plans
+use Rattle.command_stages.specs.Deriving.{Derives, is_derived, derive_memory, derived_of}
+use Rattle.command_stages.specs.Deriving as plans
 use Rattle.servient_cli.specs.Storming.{HasStorm, RunsStorm, is_counted, storm_memory, storm_run, Storms, StormsOn, with_few_exchanges}
 use Rattle.servient_cli.specs.Command.{Commands, Does, Ends, IsFaultlessStorm, is_storm, is_command, is_no_command, words_memory}
 use Rattle.servient_cli.proofs.RunLaws.{is_the_stop, serving_is_served, spent_took}
-use Rattle.servient_cli.proofs.FaultlessStages.{GoesOn, EndsWell, same_status, on_no_end, HasTrouble, by_memory, then_well, open_well}
+use Rattle.command_stages.proofs.FaultlessReading.{GoesOn, EndsWell, same_status, on_no_end, HasTrouble, by_memory, then_well}
+use Rattle.servient_cli.proofs.FaultlessStages.{open_well}
 
 -- ---- the events
 

@@ -14,14 +14,15 @@ use Rattle.servient_core.specs.declared.serving.Served.TheVariants as served
 use Rattle.servient_plan.specs.Plan.{place_of}
 use Rattle.servient_core.specs.Machine.{Site}
 use Rattle.servient_plan.specs.declared.plan.Plan.{Plan}
-use Rattle.servient_cli.specs.declared.derivation.Planned.{Planned}
-use Rattle.servient_cli.specs.declared.replay.Inputs.{Inputs}
+use Rattle.command_stages.specs.declared.derivation.Planned.{Planned}
+use Rattle.command_stages.specs.declared.inputs.Inputs.{Inputs}
 use Rattle.servient_outside.specs.declared.files.HeldFile.{HeldFile}
 use Rattle.servient_outside.specs.declared.net.EventWithBytes.{EventWithBytes}
-use Rattle.servient_cli.specs.Stages.{Around, Deed, Outcome, goes_on, ends, AndThen, ends_first, goes_further}
-use Rattle.servient_cli.specs.Reading.{ReadsFile, is_read, is_absent, is_unreadable, is_long, file_memory, ReadsTree, is_tree, has_no_tree, tree_memory, longest_json}
+use Rattle.command_stages.specs.Stages.{Around, Deed, Outcome, goes_on, ends, AndThen, ends_first, goes_further}
+use Rattle.command_stages.specs.Reading.{ReadsFile, is_read, is_absent, is_unreadable, is_long, file_memory, ReadsTree, is_tree, has_no_tree, tree_memory, longest_json}
 use Rattle.servient_script.specs.Script.{longest_script}
-use Rattle.servient_cli.specs.Replaying.{Plans, TakesBuiltIn, is_built_in, built_in_memory, plan_name, ReadsEvents, ReadsInputs, HasRead, has_read, RunsOn, ReadsScript, is_script, is_no_script, script_memory, RunsScript, is_whole, is_spent, run_memory}
+use Rattle.command_stages.specs.Inputs.{Plans, TakesBuiltIn, is_built_in, built_in_memory, plan_name, ReadsEvents, ReadsInputs, HasRead, has_read, ReadsScript, is_script, is_no_script, script_memory}
+use Rattle.servient_cli.specs.Replaying.{RunsOn, RunsScript, is_whole, is_spent, run_memory}
 use Rattle.servient_cli.specs.declared.storming.TheConstants.{STORM_EXCHANGES}
 use Rattle.servient_cli.specs.Storming.{RunsStorm, is_counted, storm_memory, Storms, StormsOn, with_few_exchanges}
 use Rattle.command_words.specs.declared.command.Consumption.{Consumption}
@@ -32,23 +33,24 @@ use Rattle.wot_consumer.specs.declared.chosen.Chosen.{Chosen}
 use Rattle.network_consumer.specs.declared.consumed.Consumed.{Consumed}
 use Rattle.network_consumer.specs.declared.consumed.Consumed.TheVariants as consumed
 use Rattle.network_consumer.specs.Deeds as operation
-use Rattle.servient_cli.specs.Consuming.{TakesDescription, is_taken, has_fault, description_memory, DescriptionIn, ReadsDescription, ReadsValue, HasInput, has_input, has_no_input, ReadsInput, Chooses, is_chosen, has_no_affordance, has_no_form, choose_memory, status_after, EndsAfter, has_ended, line_memory, Operates, OperatesOn, ConsumesBy, ConsumesThing}
+use Rattle.command_stages.specs.Describing.{TakesDescription, is_taken, has_fault, description_memory, DescriptionIn, ReadsDescription, ReadsValue, HasInput, has_input, has_no_input, ReadsInput}
+use Rattle.servient_cli.specs.Consuming.{Chooses, is_chosen, has_no_affordance, has_no_form, choose_memory, status_after, EndsAfter, has_ended, line_memory, Operates, OperatesOn, ConsumesBy, ConsumesThing}
 use Rattle.servient_cli.specs.Opening.{Exposes, is_exposed, is_misfit, expose_memory, Opens}
 use Rattle.servient_cli.specs.Listening.{Listens, is_listening, cannot_listen, place_memory, listen_memory, ServesEvents, has_served, Endures, has_endured, ServesBy, ServesPlanned}
 use Rattle.servient_core.specs.declared.sections.SectionsEnd.TheVariants as ending
 use Rattle.command_words.specs.declared.command.Budget.{Budget}
 use Rattle.command_words.specs.declared.command.Budget.TheVariants as budgets
-use Rattle.servient_cli.specs.Checking.{Checks, Judges, is_valid, is_refused, judge_memory}
-use Rattle.servient_cli.specs.Deriving.{IsPlanned, is_planned, ReadsPlanned, Prints, is_printed, print_memory, DerivesAndPrints, ReadsPlan, is_plan, is_no_plan, plan_memory, AddsModel, is_added, is_not_added, add_memory, TakesModel, TakesModels, Derives, is_derived, derive_memory}
-use Rattle.servient_cli.specs.Deriving as plans
+use Rattle.command_stages.specs.Checking.{Checks, Judges, is_valid, is_refused, judge_memory}
+use Rattle.command_stages.specs.Deriving.{IsPlanned, is_planned, ReadsPlanned, Prints, is_printed, print_memory, DerivesAndPrints, ReadsPlan, is_plan, is_no_plan, plan_memory, AddsModel, is_added, is_not_added, add_memory, TakesModel, TakesModels, Derives, is_derived, derive_memory}
+use Rattle.command_stages.specs.Deriving as plans
 use Rattle.servient_outside.specs.Out.{OutSeen}
 use Rattle.servient_base.specs.Count.{Rose}
 use Rattle.command_words.specs.Grammar.{meaning_of}
 use Rattle.command_words.specs.declared.fault.WordsFault.{WordsFault}
 use Rattle.command_words.specs.declared.fault.WordsFault.TheVariants.{Usage, NoMemory}
-use Rattle.servient_cli.specs.declared.ending.Ended.{Ended}
-use Rattle.servient_cli.specs.Words.{EndsAs}
-use Rattle.servient_cli.specs.Ending.{status_of as ended_status}
+use Rattle.command_stages.specs.declared.ending.Ended.{Ended}
+use Rattle.command_stages.specs.Words.{EndsAs}
+use Rattle.command_stages.specs.Ending.{status_of as ended_status}
 use Rattle.servient_cli.specs.Command.{Commands, Does, Ends, IsNoCommand, IsReported, MayDiscover, is_asking, is_discovering, is_command, is_no_command, words_memory}
 
 abbrev pub status_of : {A : Type 0} → Outcome A → ℕ

@@ -28,18 +28,19 @@ use Rattle.servient_outside.specs.declared.files.HeldFile.{HeldFile}
 use Rattle.servient_outside.specs.Told.{Continues}
 use Rattle.servient_outside.specs.Files.{content_of}
 use Rattle.servient_outside.specs.Out.{OutSeen, NoWriteFailed}
-use Rattle.servient_cli.specs.declared.derivation.Planned.{Planned}
-use Rattle.servient_cli.specs.Lines.{usage_line}
-use Rattle.servient_cli.specs.Stages.{Deed, text_in, Outcome, ends, EndsWith, RunsOut, AndThen, Around, ShowsDeeds}
-use Rattle.servient_cli.specs.Reading.{ReadsFile, longest_json}
+use Rattle.command_stages.specs.declared.derivation.Planned.{Planned}
+use Rattle.command_stages.specs.Lines.{usage_line}
+use Rattle.command_stages.specs.Stages.{Deed, text_in, Outcome, ends, EndsWith, RunsOut, AndThen, Around, ShowsDeeds}
+use Rattle.command_stages.specs.Reading.{ReadsFile, longest_json}
 use Rattle.servient_script.specs.Script.{longest_script}
-use Rattle.servient_cli.specs.Replaying.{Replays, IsFaultlessScript, built_in}
+use Rattle.command_stages.specs.Inputs.{built_in}
+use Rattle.servient_cli.specs.Replaying.{Replays, IsFaultlessScript}
 use Rattle.servient_cli.specs.Storming.{Storms}
 use Rattle.servient_cli.specs.Listening.{ServesPlan}
 use Rattle.servient_cli.specs.Consuming.{ConsumesThing}
 use Rattle.servient_cli.specs.Discovering.{DiscoversThings}
-use Rattle.servient_cli.specs.Checking.{Checks, IsFaultlessDescription}
-use Rattle.servient_cli.specs.Deriving.{ReadsPlanned, DerivesAndPrints, IsFaultlessPlan, derived_of}
+use Rattle.command_stages.specs.Checking.{Checks, IsFaultlessDescription}
+use Rattle.command_stages.specs.Deriving.{ReadsPlanned, DerivesAndPrints, IsFaultlessPlan, derived_of}
 
 -- ---- the table of commands
 

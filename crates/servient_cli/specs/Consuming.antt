@@ -1,10 +1,9 @@
 -- `consume TD OPERATION NAME`: an operation on another Thing. The description is read and judged, then the file of the
 -- value that is handed in is read, if one is named; a form is chosen, and the operation is done by it. Its payloads are
 -- written as they come, and then comes the line on how it ended, if it wasn't done.
-use Rattle.std.specs.Prelude.{◌≡◌, ◌/◌, ◌%◌, ◌⊎◌, ℕ, List, [], ◌++◌, codes, decimal, map, Option, Some, None, Result, option_map, slice_get}
+use Rattle.std.specs.Prelude.{◌≡◌, ◌/◌, ◌%◌, ◌⊎◌, ℕ, List, [], ◌++◌, codes, decimal, map, Option, Result, option_map}
 use Rattle.wot_json.specs.Meaning.{json_of}
 use Rattle.wot_json.specs.declared.tree.Tree.{Tree}
-use Rattle.wot_terms.specs.Faults.{faults_of}
 use Rattle.wot_terms.specs.declared.op.Op.{Op}
 use Rattle.wot_forms.specs.declared.scheme.Scheme.{Scheme}
 use Rattle.wot_consumer.specs.declared.chosen.Chosen.{Chosen}
@@ -16,7 +15,7 @@ use Rattle.servient_outside.specs.declared.files.HeldFile.{HeldFile}
 use Rattle.servient_outside.specs.declared.out.Put.{Put}
 use Rattle.servient_outside.specs.declared.out.Put.TheVariants as put
 use Rattle.servient_outside.specs.Out.{OutSeen, OutShows}
-use Rattle.servient_core.specs.Trace.{at_network}
+use Rattle.servient_trace.specs.Trace.{at_network}
 use Rattle.network_consumer.specs.declared.operation.ThingOperation.{ThingOperation}
 use Rattle.network_consumer.specs.declared.consumed.Consumed.{Consumed}
 use Rattle.network_consumer.specs.declared.consumed.Consumed.TheVariants as consumed
@@ -27,43 +26,11 @@ use Rattle.network_consumer.specs.declared.consumed.Status.TheVariants as status
 use Rattle.network_consumer.specs.Deeds.{happens, prints}
 use Rattle.network_consumer.specs.Deeds as operation
 use Rattle.network_consumer.specs.Consuming.{Consumes}
-use Rattle.servient_cli.specs.declared.ending.Ending.{Ending}
-use Rattle.servient_cli.specs.declared.ending.Ended.{Ended}
-use Rattle.servient_cli.specs.Lines.{invalid_line, memory_line, network_line, no_affordance_line, no_form_line, silent_line, spent_line}
-use Rattle.servient_cli.specs.Stages.{Deed, did_see, did_write, text_in, Outcome, goes_on, ends, EndsWith, RunsOut, AndThen, Around, ShowsDeeds}
-use Rattle.servient_cli.specs.Reading.{ReadsFile, ReadsTree, longest_json}
-use Rattle.servient_cli.specs.Ending.{final_status, final_text}
-
--- ---- the files
-
--- A description without a fault is taken.
-pub data TakesDescription (tree : Tree) (seen : List Deed) (o : Outcome Tree) : Type 0 where
-  is_taken : faults_of (json_of tree) ≡ [] → seen ≡ [] → o ≡ goes_on tree → TakesDescription tree seen o
-  -- it has faults, and this is the first
-  has_fault : (number : ℕ) (pointer : List ℕ) → slice_get (faults_of (json_of tree)) 0 ≡ Some (number, pointer)
-      → EndsWith [] 5 (invalid_line number pointer) seen o → TakesDescription tree seen o
-  description_memory : RunsOut [] seen o → TakesDescription tree seen o
-
--- The description is read and judged.
-abbrev pub DescriptionIn : List ℕ → List ℕ → List Deed → Outcome Tree → Type 0
-DescriptionIn name content = AndThen (ReadsTree name content) TakesDescription
-
-abbrev pub ReadsDescription : Option (List HeldFile) → List ℕ → List Deed → Outcome Tree → Type 0
-ReadsDescription held name = AndThen (ReadsFile held longest_json name) (DescriptionIn name)
-
--- The value that is handed in is read, if a file is named.
-abbrev pub ReadsValue : Option (List HeldFile) → List ℕ → List Deed → Outcome Tree → Type 0
-ReadsValue held name = AndThen (ReadsFile held longest_json name) (ReadsTree name)
-
-pub data HasInput (tree : Tree) (seen : List Deed) (o : Outcome (Option Tree)) : Type 0 where
-  has_input : seen ≡ [] → o ≡ goes_on (Some tree) → HasInput tree seen o
-
-pub data HasNoInput (seen : List Deed) (o : Outcome (Option Tree)) : Type 0 where
-  has_no_input : seen ≡ [] → o ≡ goes_on None → HasNoInput seen o
-
-abbrev pub ReadsInput : Option (List HeldFile) → Option (List ℕ) → List Deed → Outcome (Option Tree) → Type 0
-ReadsInput held None = HasNoInput
-ReadsInput held (Some name) = AndThen (ReadsValue held name) HasInput
+use Rattle.command_stages.specs.declared.ending.Ending.{Ending}
+use Rattle.command_stages.specs.declared.ending.Ended.{Ended}
+use Rattle.command_stages.specs.Lines.{memory_line, network_line, no_affordance_line, no_form_line, silent_line, spent_line}
+use Rattle.command_stages.specs.Stages.{Deed, did_see, did_write, text_in, Outcome, goes_on, ends, EndsWith, RunsOut, AndThen, Around, ShowsDeeds}
+use Rattle.command_stages.specs.Ending.{final_status, final_text}
 
 -- ---- the form
 

@@ -10,7 +10,7 @@ use Rattle.servient_outside.specs.declared.net.EventWithBytes.{EventWithBytes}
 use Rattle.servient_outside.specs.declared.net.Act.{Act}
 use Rattle.servient_outside.specs.declared.net.Act.TheVariants as act
 use Rattle.servient_outside.specs.Network.{acts_in, events_in}
-use Rattle.servient_core.specs.Trace.{Sighting, happened_in, calls_in}
+use Rattle.servient_trace.specs.Trace.{Sighting, happened_in, calls_in}
 use Rattle.servient_cli.specs.declared.counting.Counts.{Counts}
 
 -- a datagram came

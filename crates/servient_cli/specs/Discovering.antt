@@ -3,7 +3,7 @@
 use Rattle.std.specs.Prelude.{ℕ, List}
 use Rattle.wot_consumer.specs.Discovery.{links_of}
 use Rattle.network_consumer.specs.Consuming.{Discovers}
-use Rattle.servient_cli.specs.Stages.{Deed, Outcome}
+use Rattle.command_stages.specs.Stages.{Deed, Outcome}
 use Rattle.servient_cli.specs.Consuming.{EndsAfter}
 
 abbrev pub DiscoversThings : List ℕ → ℕ → List Deed → Outcome (Unit {0}) → Type 0

@@ -1,16 +1,8 @@
-pub mod Lines
-pub mod FaultLines
-pub mod Stages
-pub mod Reading
 pub mod Opening
 pub mod Replaying
 pub mod Counting
 pub mod Storming
 pub mod Listening
-pub mod Checking
-pub mod Deriving
-pub mod Ending
 pub mod Consuming
 pub mod Discovering
 pub mod Command
-pub mod Words

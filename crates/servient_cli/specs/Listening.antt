@@ -12,17 +12,18 @@ use Rattle.servient_core.specs.declared.sections.SectionsEnd.{SectionsEnd}
 use Rattle.servient_core.specs.declared.sections.SectionsEnd.TheVariants as ending
 use Rattle.thing_core.specs.Thing.{most_turns}
 use Rattle.servient_core.specs.declared.sections.RunBounds.{RunBounds}
-use Rattle.servient_core.specs.Sections.{Shown, ServesInSections}
+use Rattle.servient_trace.specs.ShownSections.{Shown}
+use Rattle.servient_core.specs.Sections.{ServesInSections}
 use Rattle.command_words.specs.declared.command.Budget.{Budget}
 use Rattle.command_words.specs.declared.command.Budget.TheVariants as budget
 use Rattle.servient_plan.specs.Plan.{place_of}
-use Rattle.servient_core.specs.Trace.{Sighting, at_network}
+use Rattle.servient_trace.specs.Trace.{Sighting, at_network}
 use Rattle.servient_core.specs.Machine.{Site, State, start}
 use Rattle.servient_core.specs.Serving.{Serves}
-use Rattle.servient_cli.specs.declared.derivation.Planned.{Planned}
-use Rattle.servient_cli.specs.Lines.{network_line, spent_line}
-use Rattle.servient_cli.specs.Stages.{Deed, sees, shows_all, Outcome, goes_on, EndsWith, RunsOut, AndThen}
-use Rattle.servient_cli.specs.Deriving.{ReadsPlanned}
+use Rattle.command_stages.specs.declared.derivation.Planned.{Planned}
+use Rattle.command_stages.specs.Lines.{network_line, spent_line}
+use Rattle.command_stages.specs.Stages.{Deed, sees, shows_all, Outcome, goes_on, EndsWith, RunsOut, AndThen}
+use Rattle.command_stages.specs.Deriving.{ReadsPlanned}
 use Rattle.servient_cli.specs.Opening.{Opens}
 
 -- this happened at the network

@@ -8,12 +8,12 @@ use Rattle.thing_site.specs.declared.fault.ExposeFault.{ExposeFault}
 use Rattle.thing_site.specs.declared.fault.ExposeFault.TheVariants.{NoMemory}
 use Rattle.servient_core.specs.Machine.{Site}
 use Rattle.servient_core.specs.declared.layers.Layers.{Layers}
-use Rattle.servient_cli.specs.declared.derivation.Planned.{Planned}
-use Rattle.servient_cli.specs.declared.ending.Ended.{Ended}
-use Rattle.servient_cli.specs.Lines.{input_line}
-use Rattle.servient_cli.specs.FaultLines.{misfit_text}
-use Rattle.servient_cli.specs.Stages.{Deed, Outcome, goes_on, EndsWith, RunsOut, AndThen}
-use Rattle.servient_cli.specs.Deriving.{Derives}
+use Rattle.command_stages.specs.declared.derivation.Planned.{Planned}
+use Rattle.command_stages.specs.declared.ending.Ended.{Ended}
+use Rattle.command_stages.specs.Lines.{input_line}
+use Rattle.command_stages.specs.FaultLines.{misfit_text}
+use Rattle.command_stages.specs.Stages.{Deed, Outcome, goes_on, EndsWith, RunsOut, AndThen}
+use Rattle.command_stages.specs.Deriving.{Derives}
 
 -- Giving the affordances of Things their handlers, where those of the rack are of these kinds.
 pub data Exposes (name : List ℕ) (kinds : List Kind) (slots : Slots) (things : List (List ℕ × Json)) (seen : List Deed) (o : Outcome Site) : Type 0 where

@@ -5,16 +5,17 @@ use Rattle.wot_terms.specs.declared.kind.Kind.{Kind}
 use Rattle.servient_outside.specs.declared.net.EventWithBytes.{EventWithBytes}
 use Rattle.servient_outside.specs.Ending.{with_stop}
 use Rattle.servient_outside.specs.declared.net_memory.NetMemory.{NetMemory}
-use Rattle.servient_core.specs.Trace.{Sighting}
+use Rattle.servient_trace.specs.Trace.{Sighting}
 use Rattle.servient_core.specs.Machine.{Site, State, Run, start}
 use Rattle.storm_events.specs.Storm.{events_of}
-use Rattle.servient_cli.specs.declared.derivation.Planned.{Planned}
+use Rattle.command_stages.specs.declared.derivation.Planned.{Planned}
 use Rattle.servient_cli.specs.declared.storming.Load.{Load}
 use Rattle.servient_cli.specs.declared.storming.TheConstants.{STORM_EXCHANGES}
 use Rattle.servient_cli.specs.Counting.{came, counts_in, storm_line}
-use Rattle.servient_cli.specs.Stages.{Deed, Outcome, EndsWith, RunsOut, AndThen}
+use Rattle.command_stages.specs.Stages.{Deed, Outcome, EndsWith, RunsOut, AndThen}
 use Rattle.servient_cli.specs.Opening.{Opens}
-use Rattle.servient_cli.specs.Replaying.{TakesBuiltIn, HasScript, calls_of_run, plan_name}
+use Rattle.command_stages.specs.Inputs.{TakesBuiltIn, plan_name}
+use Rattle.servient_cli.specs.Replaying.{HasScript, calls_of_run}
 
 -- the same plan, but that fewer exchanges may live, so that their table is soon full
 abbrev pub with_few_exchanges : Planned → Planned

@@ -1,21 +1,20 @@
 //! The work of each command, from the names of its files on.
 
 ghost use Rattle.std.specs.Prelude.{◌≡◌, Some, false};
-ghost use Rattle.servient_core.specs.Trace.{Outside, outside};
+ghost use Rattle.servient_trace.specs.Trace.{Outside, outside};
 ghost use Rattle.thing_site.specs.Exposing.{kinds_of};
-ghost use Rattle.servient_cli.specs.Stages.{AndThen, around};
-ghost use Rattle.servient_cli.specs.Reading.{ReadsFile, longest_json};
-ghost use Rattle.servient_cli.specs.Checking.{Checks};
+ghost use Rattle.command_stages.specs.Stages.{AndThen, around};
+ghost use Rattle.command_stages.specs.Reading.{ReadsFile, longest_json};
+ghost use Rattle.command_stages.specs.Checking.{Checks};
 ghost use Rattle.servient_cli.specs.Command.{calls_handlers, is_asking, is_networked, Does};
-ghost use Rattle.servient_cli.specs.Ending.{EndsBy};
+ghost use Rattle.command_stages.specs.Ending.{EndsBy};
 
-use crate::checking::check_file;
-use crate::derivation::derive_plan;
-use crate::ending::{Ended, Ending};
 use crate::listening::{ServeRequest, serve_plan};
-use crate::reading::{LONGEST_JSON, read_file};
-use crate::replay::{plan_name, read_inputs, run_inputs};
+use crate::replay::run_inputs;
 use crate::storming::storm;
+use command_stages::{
+    Ended, Ending, LONGEST_JSON, check_file, derive_plan, plan_name, read_file, read_inputs,
+};
 use command_words::Command;
 use servient_outside::{Files, Net};
 use std::alloc::Global;

@@ -10,15 +10,15 @@ ghost use Rattle.wot_consumer.specs.Judgement.{HasAffordance};
 ghost use Rattle.wot_consumer.specs.Choice.{IsChosen, wanted};
 ghost use Rattle.thing_handler.specs.Handler.{Seen};
 ghost use Rattle.servient_outside.specs.Files.{FilesSeen};
-ghost use Rattle.servient_core.specs.Trace.{outside};
+ghost use Rattle.servient_trace.specs.Trace.{outside};
 ghost use Rattle.network_consumer.specs.Answers.{CanBeAsked};
 ghost use Rattle.network_consumer.specs.Asking.{IsChoice};
-ghost use Rattle.servient_cli.specs.Stages.{Around, around};
+ghost use Rattle.command_stages.specs.Stages.{Around, around};
 ghost use Rattle.servient_cli.specs.Consuming.{Chooses, ConsumesThing, EndsPrinting, IsAskedFor, IsEndOf, Operates, OperatesOn};
-ghost use Rattle.servient_cli.specs.Ending.{Performs};
+ghost use Rattle.command_stages.specs.Ending.{Performs};
 
-use crate::described::{read_description, read_input};
-use crate::ending::{Ended, Ending, end_with};
+use crate::outcomes::undone;
+use command_stages::{Ended, Ending, end_with, read_description, read_input};
 use command_words::Consumption;
 use network_consumer::{Consumed, ThingOperation, consume};
 use servient_outside::{Files, Net, Out};
@@ -144,7 +144,7 @@ pub fn end_of(alloc: Global, consumed: Consumed) -> Result<Ending, Ended>
             status: 0,
             text: Bytes::new(alloc),
         }),
-        Consumed::Other(outcome) => Err(end_with(Ending::outcome(alloc, outcome))),
+        Consumed::Other(outcome) => Err(end_with(undone(alloc, outcome))),
         Consumed::Silent => Err(Ended::Silent),
         Consumed::Failed => Err(Ended::Network),
         Consumed::Unprinted => Err(Ended::Output),

@@ -1,11 +1,11 @@
 //! The counts of a storm, and the line that says them.
 
-ghost use Rattle.std.specs.Prelude.{◌≡◌, ◌++◌, codes, decimal, length, IfOk, OnOk};
+ghost use Rattle.std.specs.Prelude.{◌≡◌, length, IfOk};
 ghost use Rattle.std.specs.List.{filter};
 ghost use Rattle.servient_cli.specs.Counting.{came, is_datagram as is_datagram_what, is_sent as is_sent_act, is_unavailable as is_unavailable_act, storm_line, turns_kept as turns_kept_in};
 
-use crate::ending::Ending;
 use coap_msg::SERVICE_UNAVAILABLE;
+use command_stages::Ending;
 use servient_outside::{Act, Events, What};
 use servient_script::put_number;
 use std::alloc::Global;

@@ -3,13 +3,13 @@
 ghost use Rattle.std.specs.Prelude.{List};
 ghost use Rattle.thing_handler.specs.Handler.{Seen};
 ghost use Rattle.servient_outside.specs.Files.{FilesSeen};
-ghost use Rattle.servient_core.specs.Trace.{outside};
-ghost use Rattle.servient_cli.specs.Stages.{around};
+ghost use Rattle.servient_trace.specs.Trace.{outside};
+ghost use Rattle.command_stages.specs.Stages.{around};
 ghost use Rattle.servient_cli.specs.Consuming.{EndsPrinting};
 ghost use Rattle.servient_cli.specs.Discovering.{DiscoversThings};
 
 use crate::consumption::end_of;
-use crate::ending::{Ended, Ending};
+use command_stages::{Ended, Ending};
 use network_consumer::discover;
 use servient_outside::{Net, Out};
 use std::alloc::Global;

@@ -16,23 +16,17 @@
 //! ```
 #![tactic(auto)]
 
-mod checking;
 mod commands;
 mod consumption;
 mod counting;
-mod derivation;
-mod described;
 mod discovery;
-mod ending;
-mod fault_lines;
 mod listening;
 mod main_call;
 mod opening;
-mod reading;
+mod outcomes;
 mod replay;
 mod storming;
 
-pub use ending::{Ended, Ending, end_with};
+pub use command_stages::{Ended, Ending, LONGEST_JSON, end_with, read_file, read_tree};
 pub use main_call::{report, servient_main};
-pub use reading::{LONGEST_JSON, read_file, read_tree};
 pub use servient_script::{Script, ScriptFault, each_event_has_fields, lines_are_cut_in_one_way};

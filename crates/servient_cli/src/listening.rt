@@ -4,18 +4,17 @@ ghost use Rattle.std.specs.Prelude.{ℕ, List, Option, ◌*◌};
 ghost use Rattle.thing_site.specs.Exposing.{kinds_of};
 ghost use Rattle.thing_site.specs.Fits.{Fits};
 ghost use Rattle.thing_handler.specs.Handler.{Seen};
-ghost use Rattle.servient_core.specs.Trace.{outside};
+ghost use Rattle.servient_trace.specs.Trace.{outside};
 ghost use Rattle.servient_plan.specs.Plan.{MayBeServed, place_of};
 ghost use Rattle.servient_core.specs.Machine.{start};
 ghost use Rattle.servient_core.specs.Serving.{StandsFor};
 ghost use Rattle.servient_outside.specs.Files.{FilesSeen};
-ghost use Rattle.servient_cli.specs.Stages.{around};
+ghost use Rattle.command_stages.specs.Stages.{around};
 ghost use Rattle.servient_cli.specs.Listening.{Endures, Listens, ServesBy, ServesEvents, ServesPlan, ServesPlanned};
-ghost use Rattle.servient_cli.specs.Ending.{EndsBy, Performs};
+ghost use Rattle.command_stages.specs.Ending.{EndsBy, Performs};
 
-use crate::derivation::{Planned, read_planned};
-use crate::ending::{Ended, Ending};
 use crate::opening::open;
+use command_stages::{Ended, Ending, Planned, read_planned};
 use command_words::Budget;
 use servient_core::{
     MOST_TURNS, Plan, RunBounds, SectionsEnd, Served, Servient, serve, serve_in_sections,

@@ -3,21 +3,21 @@
 ghost use Rattle.std.specs.Prelude.{◌≡◌, ◌≢◌, ◌≤◌, ◌⊎◌, true, false, List, Some};
 ghost use Rattle.wot_terms.specs.declared.kind.Kind.{Kind};
 ghost use Rattle.thing_site.specs.Exposing.{kinds_of};
-ghost use Rattle.servient_cli.specs.Stages.{around};
+ghost use Rattle.command_stages.specs.Stages.{around};
 ghost use Rattle.command_words.specs.Grammar.{meaning_of};
 ghost use Rattle.servient_base.specs.Count.{Rose};
 ghost use Rattle.servient_outside.specs.Out.{NoWriteFailed};
-ghost use Rattle.servient_core.specs.Trace.{outside};
+ghost use Rattle.servient_trace.specs.Trace.{outside};
 ghost use Rattle.thing_handler.specs.Handler.{Seen};
 ghost use Rattle.servient_cli.specs.Command.{calls_handlers, is_asking, is_discovering, is_networked, is_storm};
 ghost use Rattle.servient_cli.specs.Command.{Does, Ends, EndsAndReports, IsFaultless, IsNoCommand, IsReported, IsWell, MayDiscover, NothingFailed};
 ghost use Rattle.servient_cli.specs.Consuming.{EndsPrinting};
-ghost use Rattle.servient_cli.specs.Ending.{final_status as status_in, final_text as text_in};
+ghost use Rattle.command_stages.specs.Ending.{final_status as status_in, final_text as text_in};
 
 use crate::commands::run_command;
 use crate::consumption::consume_thing;
 use crate::discovery::discover_things;
-use crate::ending::{Ended, Ending, SPENT_LINE};
+use command_stages::{Ended, Ending, SPENT_LINE};
 use command_words::Command;
 use servient_outside::{Files, Net, Out, Put};
 use std::alloc::Global;

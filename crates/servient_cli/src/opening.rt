@@ -9,13 +9,11 @@ ghost use Rattle.thing_site.specs.Fits.{Fits};
 ghost use Rattle.servient_plan.specs.Plan.{MayBeServed};
 ghost use Rattle.servient_core.specs.Machine.{start};
 ghost use Rattle.servient_core.specs.Serving.{StandsFor};
-ghost use Rattle.servient_cli.specs.Stages.{Around};
+ghost use Rattle.command_stages.specs.Stages.{Around};
 ghost use Rattle.servient_cli.specs.Opening.{Exposes, Opens, site_in};
-ghost use Rattle.servient_cli.specs.Ending.{Performs};
+ghost use Rattle.command_stages.specs.Ending.{Performs};
 
-use crate::derivation::{Planned, derive_things};
-use crate::ending::{Ended, end_with};
-use crate::fault_lines::misfit;
+use command_stages::{Ended, Planned, derive_things, end_with, misfit};
 use servient_core::{OpenFault, Plan, Servient};
 use std::alloc::Global;
 use thing_handler::Handlers;

@@ -27,13 +27,13 @@ use Rattle.servient_outside.specs.declared.net.Act.{Act}
 use Rattle.servient_outside.specs.declared.net.Act.TheVariants as act
 use Rattle.servient_outside.specs.Network.{Happening, NetSeen, NetShows, did}
 use Rattle.servient_outside.proofs.NetLaws.{net_shows_then}
-use Rattle.servient_core.specs.Trace.{at_network, happened_in, calls_in, Outside, outside, Shows}
+use Rattle.servient_trace.specs.Trace.{at_network, happened_in, calls_in, Outside, outside, Shows}
 use Rattle.servient_core.specs.Machine.{State, OnHttp, Does, PerformsByHttp, DeliversEach, acts_of_reply, Sends, SendsIfAny, AnswersMessage, AnswersTaken, TakesNextMessage, TakesEveryMessage, ClosesIdle}
 use Rattle.servient_core.specs.Serving.{StandsFor, IsReady}
 use Rattle.servient_core.specs.Keeping.{OthersKeep, ClosesAllIdle}
 use Rattle.servient_core.specs.Connections.{IsOn, SendsAnswer, SendsContinue, SendsRefusal, StaysDry, acts_of_answer}
 use Rattle.servient_core.specs.declared.layers.Layers.{Layers}
-use Rattle.servient_core.proofs.TraceLaws.{shows_in_order}
+use Rattle.servient_trace.proofs.TraceLaws.{shows_in_order}
 use Rattle.servient_core.proofs.PartLaws.{refines_http, refines_act, refines_nothing, passing_moves, then_moves}
 use Rattle.servient_core.proofs.LoopLaws.{leaves_same, others_all, others_then}
 

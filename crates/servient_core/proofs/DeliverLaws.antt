@@ -19,13 +19,13 @@ use Rattle.http_bind.specs.Streams.{HttpReply, Wakes, oldest_for, oldest_late}
 use Rattle.http_bind.specs.declared.waits.Wait.{Wait}
 use Rattle.http_bind.specs.Slots.{Slots, HasRoom}
 use Rattle.servient_outside.specs.Network.{NetSeen}
-use Rattle.servient_core.specs.Trace.{Outside, outside, Shows}
+use Rattle.servient_trace.specs.Trace.{Outside, outside, Shows}
 use Rattle.servient_core.specs.Machine.{State, Move, OnHttp, OnThing, Sends, acts_of_reply, RepliesToWait, AnswersWait, AnswersLateWait, MarksObservers, Delivers, DeliversEach, PollsAndDelivers}
 use Rattle.wot_registry.specs.Times.{last_moment}
 use Rattle.servient_core.specs.Serving.{StandsFor, IsReady}
 use Rattle.servient_core.specs.Keeping.{DoesQuietly, DoesMove, LeavesNoMore, OnlyDelivers, SendsToWait, PollsOne, polls, ends, AnswersWaits}
 use Rattle.servient_core.specs.declared.layers.Layers.{Layers}
-use Rattle.servient_core.proofs.TraceLaws.{shows_in_order}
+use Rattle.servient_trace.proofs.TraceLaws.{shows_in_order}
 use Rattle.servient_core.proofs.PartLaws.{refines_http, refines_coap, refines_thing, refines_from, passing_moves, then_moves, fits_after}
 use Rattle.servient_core.proofs.ConnectionLaws.{refines_acts}
 use Rattle.servient_core.proofs.LoopLaws.{Repeating, repeating_begins, repeating_more, repeating_ends, leaves_same, leaves_then, room_stays}

@@ -11,7 +11,7 @@ use Rattle.coap_bind.specs.Server.{SendsNext}
 use Rattle.http_bind.specs.Slots.{Slots}
 use Rattle.servient_outside.specs.declared.net.Act.TheVariants as act
 use Rattle.servient_outside.specs.Network.{NetSeen, NetShows, did}
-use Rattle.servient_core.specs.Trace.{outside, Shows}
+use Rattle.servient_trace.specs.Trace.{outside, Shows}
 use Rattle.servient_core.specs.Machine.{OnCoap, Does, SendsNotification, NothingIsDue, SendsNotifications, EndsEvent, notification_bytes}
 use Rattle.servient_core.specs.Serving.{StandsFor, IsReady}
 use Rattle.servient_core.specs.Keeping.{DoesQuietly, LeavesNoMore, AnswersLateWaits, ClosesAllIdle}

@@ -1,4 +1,3 @@
-pub mod TraceLaws
 pub mod PartLaws
 pub mod LinkLaws
 pub mod LoopLaws

@@ -5,12 +5,12 @@ use Rattle.std.proofs.lemmas.Bool.{cases_lt}
 use Rattle.servient_base.specs.Moves.{Refines, Until}
 use Rattle.servient_base.proofs.MovesLaws.{refines_goes_on, refines_is_done}
 use Rattle.http_bind.specs.Slots.{Held, Slots, left_in, HasRoomFor, HasRoom, held_at, longest_piece}
-use Rattle.servient_core.specs.Trace.{Outside, Shows}
+use Rattle.servient_trace.specs.Trace.{Outside, Shows}
 use Rattle.servient_core.specs.Machine.{State, Move}
 use Rattle.servient_core.specs.Serving.{StandsFor}
 use Rattle.servient_core.specs.Keeping.{LeavesNoMore, OthersKeep}
 use Rattle.servient_core.specs.declared.layers.Layers.{Layers}
-use Rattle.servient_core.proofs.TraceLaws.{shows_in_order}
+use Rattle.servient_trace.proofs.TraceLaws.{shows_in_order}
 
 -- ---- again and again
 

@@ -22,14 +22,14 @@ use Rattle.servient_outside.specs.Network.{Happening, did, broke, next_event, ev
 use Rattle.servient_outside.proofs.NetLaws.{break_count-append}
 use Rattle.servient_core.specs.declared.serving.Served.{Served}
 use Rattle.servient_core.specs.declared.serving.Served.TheVariants as served
-use Rattle.servient_core.specs.Trace.{Sighting, at_network, at_handler, happened_in, calls_in, happening_in}
+use Rattle.servient_trace.specs.Trace.{Sighting, at_network, at_handler, happened_in, calls_in, happening_in}
 use Rattle.servient_core.specs.Machine.{Site, State, Move, OnHttp, OnCoap, OnThing, Does, PerformsByHttp, AnswersDatagram, HearsDatagram, acts_of_reply, SendsIfAny, RepliesToWait, AnswersWait, AnswersLateWait, Delivers, DeliversEach, observed_target, AnswersTaken, TakesNextMessage, ClosesIdle, PollsAndDelivers, SendsNotification, NothingIsDue, SendsNotifications, EndsEvent, notification_bytes, Follows, Step, Run}
 use Rattle.servient_core.specs.Keeping.{AnswersLateWaits, ClosesAllIdle}
 use Rattle.http_bind.specs.Streams.{HttpReply, Streams, Taken, asks, wants_continue, is_faulty, interrupts, Opened, Ended, Lengthened, Takes, IsDry, Answers as AnswersRequest, Wakes, Continues, Refuses, Closes, oldest_for, oldest_late, IsIdle, NoneIdle}
 use Rattle.servient_core.specs.Serving.{Serves, BreaksAtEnd}
 use Rattle.servient_core.proofs.PartLaws.{nothing_happened, the_calls}
 use Rattle.servient_core.proofs.NumberLaws.{Counts, acts_count, polled_counts}
-use Rattle.servient_core.proofs.TraceLaws.{events-append, breaks-append, turns-append}
+use Rattle.servient_trace.proofs.TraceLaws.{events-append, breaks-append, turns-append}
 
 -- These events are heard, the network doesn't break, and the turns are numbered on from those that the state has.
 pub record Keeps (events : List EventWithBytes) (s : State) (seen : List Sighting) (t : State) : Type 0 where

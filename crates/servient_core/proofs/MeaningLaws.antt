@@ -25,7 +25,7 @@ use Rattle.coap_bind.specs.declared.pending.PendingReply.{PendingReply}
 use Rattle.servient_outside.specs.declared.net.Act.{Act}
 use Rattle.servient_outside.specs.declared.net.Act.TheVariants as act
 use Rattle.servient_outside.specs.Network.{did}
-use Rattle.servient_core.specs.Trace.{Sighting, at_network, calls_in, call_in}
+use Rattle.servient_trace.specs.Trace.{Sighting, at_network, calls_in, call_in}
 use Rattle.servient_core.specs.Machine.{Site, State, Move, Does, Performs, PerformsByHttp, acts_of_reply, SendsIfAny, AnswersWait, AnswersLateWait, Delivers, DeliversEach, ClosesIdle, SendsNotification, NothingIsDue, EndsEvent, notification_bytes}
 use Rattle.servient_core.specs.Promises.{ActsOnNothing}
 use Rattle.servient_core.specs.Meaning.{Message, by_coap, by_http, request_of, asks_directory, PerformsMessage, Writes, ComesTo, IsWritten, HaveOneMeaning, AsksDirectoryAlone, FindsNoDirectory}

@@ -6,7 +6,7 @@ use Rattle.std.proofs.lemmas.Option.{same_Some}
 use Rattle.servient_base.specs.Count.{raised}
 use Rattle.thing_handler.specs.Handler.{Seen}
 use Rattle.thing_handler.specs.Turns.{CountMisses, misses_in, times}
-use Rattle.servient_core.specs.Trace.{calls_in}
+use Rattle.servient_trace.specs.Trace.{calls_in}
 use Rattle.servient_core.specs.Runs.{misses_of, RoseExactly, MissesAreCounted}
 
 rose : (more before now : ℕ) → now ≡ raised more before → RoseExactly more before now

@@ -30,12 +30,12 @@ use Rattle.servient_outside.specs.declared.net.Act.TheVariants as act
 use Rattle.servient_outside.specs.declared.net.EventWithBytes.{EventWithBytes}
 use Rattle.servient_outside.specs.Network.{Happening, NetSeen, NetShows, did}
 use Rattle.servient_outside.proofs.NetLaws.{net_shows_none}
-use Rattle.servient_core.specs.Trace.{at_network, at_handler, happened_in, calls_in, Outside, outside, Shows}
+use Rattle.servient_trace.specs.Trace.{at_network, at_handler, happened_in, calls_in, Outside, outside, Shows}
 use Rattle.servient_core.specs.Machine.{State, Move, OnHttp, OnCoap, OnThing, Does, Performs, PerformsOnDirectory, PerformsByHttp, Delivers, DeliversEach, observed_target, AnswersAsk, AnswersDatagram, HearsDatagram, Follows, Step, EndsEvent}
 use Rattle.servient_core.specs.Serving.{StandsFor}
 use Rattle.servient_core.specs.Keeping.{LeavesNoMore, OthersKeep, MakesByHttp}
 use Rattle.servient_core.specs.declared.layers.Layers.{Layers}
-use Rattle.servient_core.proofs.TraceLaws.{shows_in_order, shows_at_network}
+use Rattle.servient_trace.proofs.TraceLaws.{shows_in_order, shows_at_network}
 
 -- ---- what is seen of calls alone
 

@@ -17,7 +17,7 @@ use Rattle.coap_bind.specs.Server.{Heard, ignored, answered_at_once, asked, arri
 use Rattle.coap_bind.proofs.HistoryLaws.{duplicates_ask_nothing}
 use Rattle.servient_outside.specs.declared.net.Act.TheVariants as act
 use Rattle.servient_outside.specs.Network.{did}
-use Rattle.servient_core.specs.Trace.{Sighting, at_network, calls_in}
+use Rattle.servient_trace.specs.Trace.{Sighting, at_network, calls_in}
 use Rattle.servient_core.specs.Machine.{Site, State, AnswersDatagram}
 use Rattle.servient_core.specs.Promises.{ActsOnNothing, DuplicatesActOnNothing, FullTableActsOnNothing}
 

@@ -10,20 +10,22 @@ use Rattle.thing_site.specs.Fits.{Fits}
 use Rattle.servient_outside.specs.declared.net.What.TheVariants as what
 use Rattle.servient_outside.specs.declared.net.EventWithBytes.{EventWithBytes}
 use Rattle.servient_outside.specs.Network.{NetSeen, NetShows, heard, broke, next_event}
-use Rattle.servient_core.specs.Trace.{Sighting, at_network, calls_in, Outside, outside, Shows}
+use Rattle.servient_trace.specs.Trace.{Sighting, at_network, calls_in, Outside, outside, Shows}
 use Rattle.servient_core.specs.Machine.{Site, State, Step, EventAndStep, Run}
 use Rattle.servient_core.specs.Keeping.{Comes}
 use Rattle.servient_core.specs.declared.layers.Layers.{Layers}
 use Rattle.servient_core.specs.Serving.{StandsFor, HasNoStop}
-use Rattle.servient_core.specs.Sections.{Shown, saw, forgot, seen_of, seen_in, shown_of, after_forgetting, ShowsInSections, section, IsInTime, ForgetsIfDue, isnt_due, is_due, AreTakenInSections, EndsSections, ServesInSections}
+use Rattle.servient_trace.specs.ShownSections.{Shown, saw, forgot, seen_of, seen_in, shown_of, after_forgetting, ShowsInSections, section}
+use Rattle.servient_core.specs.Sections.{IsInTime, ForgetsIfDue, isnt_due, is_due, AreTakenInSections, EndsSections, ServesInSections}
 use Rattle.servient_core.specs.declared.sections.RunBounds.{RunBounds}
 use Rattle.servient_core.specs.declared.sections.SectionsEnd.{SectionsEnd}
 use Rattle.servient_core.specs.declared.sections.SectionsEnd.TheVariants as ending
 use Rattle.servient_core.specs.declared.sections.TheConstants.{MOST_KEPT}
 use Rattle.servient_core.proofs.MachineLaws.{step_keeps, run_keeps}
 use Rattle.servient_core.proofs.ServingLaws.{no_stop_more}
-use Rattle.servient_core.proofs.SectionLaws.{seen_of_shown, sections_in_order, forgotten_section, fits_forgotten, kept_after, turns_after, kept_then, in_time_then, turns_of_shown, kept_of_seen, quiet_in_time}
-use Rattle.servient_core.proofs.TraceLaws.{shows_in_order, shows_at_network}
+use Rattle.servient_trace.proofs.ShownLaws.{seen_of_shown, sections_in_order, forgotten_section}
+use Rattle.servient_core.proofs.SectionLaws.{fits_forgotten, kept_after, turns_after, kept_then, in_time_then, turns_of_shown, kept_of_seen, quiet_in_time}
+use Rattle.servient_trace.proofs.TraceLaws.{shows_in_order, shows_at_network}
 
 -- A run over these events, in which the handlers forget in time, and next once the run has `due` turns.
 pub record Rounds (site : Site) (most : ℕ) (took : List EventWithBytes) (due : ℕ) (s : State) (shown : List Shown) (t : State) : Type 0 where

@@ -10,12 +10,12 @@ use Rattle.servient_outside.specs.declared.net.EventWithBytes.{EventWithBytes}
 use Rattle.servient_outside.specs.Network.{byte_count, in_buffer, Happening, NetSeen, NetShows, heard, broke, next_event}
 use Rattle.servient_core.specs.declared.serving.Served.{Served}
 use Rattle.servient_core.specs.declared.serving.Served.TheVariants as served
-use Rattle.servient_core.specs.Trace.{at_network, Outside, outside, Shows}
+use Rattle.servient_trace.specs.Trace.{at_network, Outside, outside, Shows}
 use Rattle.servient_core.specs.Machine.{Site, State, Step, EventAndStep, Run}
 use Rattle.servient_core.specs.Keeping.{Comes}
 use Rattle.servient_core.specs.declared.layers.Layers.{Layers}
 use Rattle.servient_core.specs.Serving.{StandsFor, HasNoStop, AreTaken, Ends, Serves}
-use Rattle.servient_core.proofs.TraceLaws.{shows_in_order, shows_at_network}
+use Rattle.servient_trace.proofs.TraceLaws.{shows_in_order, shows_at_network}
 
 -- no event of all is a stop, where none so far and not the next is
 pub no_stop_more : (es : List EventWithBytes) (e : EventWithBytes) → HasNoStop es → e.event.what ≢ what.Stop → HasNoStop (es ++ e ∷ [])

@@ -21,7 +21,7 @@ use Rattle.http_bind.specs.Streams.{HttpReply, Wakes, oldest_for, oldest_late, N
 use Rattle.http_bind.specs.Slots.{Slots, Leads, left_at}
 use Rattle.servient_outside.specs.Network.{NetSeen, NetShows, heard, did}
 use Rattle.servient_outside.specs.declared.net.EventWithBytes.{EventWithBytes}
-use Rattle.servient_core.specs.Trace.{at_network, Outside, outside, Shows}
+use Rattle.servient_trace.specs.Trace.{at_network, Outside, outside, Shows}
 use Rattle.servient_core.specs.Machine.{Move, AnswersWait, AnswersLateWait, ClosesIdle, PollsAndDelivers, acts_of_reply}
 use Rattle.servient_core.specs.Serving.{StandsFor, IsReady}
 use Rattle.servient_core.specs.declared.layers.Layers.{Layers}

@@ -1,4 +1,3 @@
-pub mod Trace
 pub mod Links
 pub mod Machine
 pub mod Keeping

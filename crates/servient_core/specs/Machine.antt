@@ -34,7 +34,7 @@ use Rattle.servient_outside.specs.declared.net.EventWithBytes.{EventWithBytes}
 use Rattle.servient_outside.specs.declared.net.Act.{Act}
 use Rattle.servient_outside.specs.declared.net.Act.TheVariants as act
 use Rattle.servient_outside.specs.Network.{heard, did}
-use Rattle.servient_core.specs.Trace.{Sighting, at_network, at_handler}
+use Rattle.servient_trace.specs.Trace.{Sighting, at_network, at_handler}
 use Rattle.servient_core.specs.Links.{segments_of, text_of_links}
 
 -- ---- the state

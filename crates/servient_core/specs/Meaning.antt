@@ -15,7 +15,7 @@ use Rattle.coap_opts.specs.Reading.{AskSeen}
 use Rattle.coap_bind.specs.declared.pending.PendingReply.{PendingReply}
 use Rattle.coap_bind.specs.Server.{asked}
 use Rattle.http_bind.specs.Streams.{asks}
-use Rattle.servient_core.specs.Trace.{Sighting, calls_in}
+use Rattle.servient_trace.specs.Trace.{Sighting, calls_in}
 use Rattle.servient_core.specs.Machine.{Site, State, Move, Performs, PerformsByHttp, AnswersAsk, AnswersDatagram, AnswersMessage, AnswersTaken, DeliversEach}
 
 -- A message that was read as a request: by CoAP from an endpoint, where it asks for this and has to be answered, or by

@@ -9,7 +9,7 @@ use Rattle.coap_bind.specs.Server.{is_request, arrival}
 use Rattle.coap_bind.specs.Laws.{Did}
 use Rattle.servient_outside.specs.declared.net.Act.TheVariants as act
 use Rattle.servient_outside.specs.Network.{did}
-use Rattle.servient_core.specs.Trace.{Sighting, at_network, calls_in}
+use Rattle.servient_trace.specs.Trace.{Sighting, at_network, calls_in}
 use Rattle.servient_core.specs.Machine.{Site, State, HearsDatagram}
 
 -- no handler was called, and nothing of the Things and of the directory changed

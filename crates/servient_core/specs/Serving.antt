@@ -9,7 +9,7 @@ use Rattle.thing_site.specs.Exposing.{IsFirst}
 use Rattle.wot_registry.specs.Times.{last_moment}
 use Rattle.directory_requests.specs.Requests.{standing_at}
 use Rattle.http_bind.specs.Slots.{StandsFor as ConnectionsStandFor, HasRoom}
-use Rattle.servient_core.specs.Trace.{Sighting, at_network}
+use Rattle.servient_trace.specs.Trace.{Sighting, at_network}
 use Rattle.servient_core.specs.Machine.{Site, State, Run}
 use Rattle.servient_core.specs.declared.layers.Layers.{Layers}
 use Rattle.servient_core.specs.declared.servient.OpenFault.{OpenFault}

@@ -6,7 +6,7 @@ ghost use Rattle.servient_base.specs.Moves.{Refines};
 ghost use Rattle.thing_site.specs.Fits.{Fits};
 ghost use Rattle.http_bind.specs.Replying.{fault_word};
 ghost use Rattle.http_bind.specs.Slots.{left_at, longest_piece, longest_text, IsOwed, IsWaiting, HasRoom};
-ghost use Rattle.servient_core.specs.Trace.{Shows, outside};
+ghost use Rattle.servient_trace.specs.Trace.{Shows, outside};
 ghost use Rattle.servient_outside.specs.Network.{NetShows, did};
 ghost use Rattle.servient_core.specs.Machine.{HearsPiece, TakesEveryMessage, acts_of_reply};
 ghost use Rattle.servient_core.specs.Serving.{StandsFor, IsReady};

@@ -5,7 +5,7 @@ ghost use Rattle.std.specs.Prelude.{◌≡◌, []};
 ghost use Rattle.servient_base.specs.Moves.{Each};
 ghost use Rattle.thing_site.specs.Site.{events_of};
 ghost use Rattle.thing_site.specs.Fits.{Fits};
-ghost use Rattle.servient_core.specs.Trace.{outside};
+ghost use Rattle.servient_trace.specs.Trace.{outside};
 ghost use Rattle.servient_core.specs.Machine.{Delivers, PollsAndDelivers};
 ghost use Rattle.servient_core.specs.Serving.{IsReady};
 ghost use Rattle.servient_core.specs.Keeping.{DoesMove, DoesQuietly, LeavesNoMore, OnlyDelivers, PollsOne, AnswersWaits};

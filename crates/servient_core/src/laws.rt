@@ -9,7 +9,7 @@ ghost use Rattle.thing_handler.specs.Turns.{AreNumberedFrom, turns_in};
 ghost use Rattle.servient_outside.specs.Network.{break_count};
 ghost use Rattle.servient_core.specs.declared.serving.Served.{Served};
 ghost use Rattle.servient_core.specs.declared.serving.Served.TheVariants as served;
-ghost use Rattle.servient_core.specs.Trace.{Sighting, happened_in, calls_in};
+ghost use Rattle.servient_trace.specs.Trace.{Sighting, happened_in, calls_in};
 ghost use Rattle.servient_core.specs.Links.{LinksNameEachThing};
 ghost use Rattle.servient_core.specs.Machine.{Site, State};
 ghost use Rattle.servient_core.specs.Serving.{Serves, BreaksAtEnd, StandsFor};

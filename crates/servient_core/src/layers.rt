@@ -6,7 +6,7 @@ ghost use Rattle.servient_core.specs.Machine.{Follows, HearsDatagram};
 ghost use Rattle.servient_outside.specs.Network.{byte_count, IsEvent};
 ghost use Rattle.servient_core.specs.Serving.{IsReady};
 ghost use Rattle.servient_core.specs.Keeping.{DoesMove};
-ghost use Rattle.servient_core.specs.Trace.{outside};
+ghost use Rattle.servient_trace.specs.Trace.{outside};
 
 use crate::connections::Rooms;
 use crate::performing::{observed_by, perform};

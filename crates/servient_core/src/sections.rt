@@ -4,10 +4,11 @@
 ghost use Rattle.std.specs.Prelude.{◌≡◌, ◌≤◌};
 ghost use Rattle.servient_base.specs.Moves.{Refines};
 ghost use Rattle.thing_site.specs.Fits.{Fits};
-ghost use Rattle.servient_core.specs.Trace.{outside};
+ghost use Rattle.servient_trace.specs.Trace.{outside};
 ghost use Rattle.servient_core.specs.Serving.{StandsFor};
 ghost use Rattle.thing_core.specs.Thing.{most_turns};
-ghost use Rattle.servient_core.specs.Sections.{ForgetsIfDue, ServesInSections, ShowsInSections};
+ghost use Rattle.servient_trace.specs.ShownSections.{ShowsInSections};
+ghost use Rattle.servient_core.specs.Sections.{ForgetsIfDue, ServesInSections};
 
 use crate::serving::BUFFER_BYTES;
 use crate::{Net, Next, Servient, What};

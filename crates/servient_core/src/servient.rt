@@ -11,7 +11,7 @@ ghost use Rattle.thing_core.specs.Thing.{most_turns};
 ghost use Rattle.thing_site.specs.Fits.{Fits};
 ghost use Rattle.wot_registry.specs.Dates.{last_millisecond};
 ghost use Rattle.servient_outside.specs.Network.{byte_count, IsEvent};
-ghost use Rattle.servient_core.specs.Trace.{Shows, outside};
+ghost use Rattle.servient_trace.specs.Trace.{Shows, outside};
 ghost use Rattle.core_links.specs.Links.{IsLinkText};
 ghost use Rattle.coap_bind.specs.Server.{start as nothing_came, with_links};
 ghost use Rattle.servient_core.specs.declared.capacity.TheConstants.{MOST_WATCHERS};

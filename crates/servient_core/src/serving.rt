@@ -3,7 +3,7 @@
 ghost use Rattle.std.specs.Prelude.{◌≡◌};
 ghost use Rattle.servient_base.specs.Moves.{Refines};
 ghost use Rattle.thing_site.specs.Fits.{Fits};
-ghost use Rattle.servient_core.specs.Trace.{Shows, outside};
+ghost use Rattle.servient_trace.specs.Trace.{Shows, outside};
 ghost use Rattle.servient_core.specs.Serving.{StandsFor, Serves};
 
 use crate::{Net, Next, Servient, What};

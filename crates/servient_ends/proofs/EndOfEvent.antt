@@ -10,7 +10,7 @@ use Rattle.coap_bind.specs.declared.server.Server.{Server}
 use Rattle.coap_bind.specs.Server.{SendsNext, with_emitted}
 use Rattle.coap_bind.specs.Writing.{notification}
 use Rattle.thing_core.specs.State.{State as ThingState, Emission as ThingEmission}
-use Rattle.servient_core.specs.Trace.{Sighting}
+use Rattle.servient_trace.specs.Trace.{Sighting}
 use Rattle.servient_core.specs.Machine.{Site, State, SendsNotification, NothingIsDue, EndsEvent}
 use Rattle.servient_world.specs.World.{WorldState, WorldMove, emit, notify, Datagram, with_new_value, with_notification, notification_sent, PlaysAll}
 use Rattle.servient_ends.specs.Ends.{along, notifications_in, as_emission, fresh_among, notification_of, with_emissions, with_notifications}

@@ -26,7 +26,7 @@ use Rattle.servient_outside.specs.declared.net.EventWithBytes.{EventWithBytes}
 use Rattle.servient_outside.specs.declared.net.Act.TheVariants as act
 use Rattle.servient_outside.specs.Network.{heard, did}
 use Rattle.servient_core.specs.declared.capacity.TheConstants.{MOST_WATCHERS}
-use Rattle.servient_core.specs.Trace.{Sighting, at_network}
+use Rattle.servient_trace.specs.Trace.{Sighting, at_network}
 use Rattle.servient_core.specs.Machine.{State, start, EventAndStep}
 use Rattle.servient_world.specs.World.{client_place, server_place, copy_of, reply_to, WorldState, acts_for, id_used, with_sent, ClientAsks, sends_ask}
 use Rattle.servient_ends.specs.Ends.{EndsState, IsBeginning, act_of, back_of, emitted_by_datagram, notifications_in, with_emissions, with_notifications, event_at, ServientHears, Arrives, to_servient, TakesAll}

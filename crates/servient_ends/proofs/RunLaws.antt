@@ -11,7 +11,7 @@ use Rattle.thing_core.specs.State.{State as ThingState}
 use Rattle.servient_outside.specs.declared.net.What.{What}
 use Rattle.servient_outside.specs.declared.net.What.TheVariants as what
 use Rattle.servient_outside.specs.declared.net.EventWithBytes.{EventWithBytes}
-use Rattle.servient_core.specs.Trace.{Sighting}
+use Rattle.servient_trace.specs.Trace.{Sighting}
 use Rattle.servient_core.specs.Machine.{Site, State, EventAndStep, Run}
 use Rattle.servient_world.specs.World.{WorldState, Datagram, Purpose, client_place, server_place, other, copy_of, purpose_back, acts_for, id_used, latest, with_sent, sent_now, ClientAsks, sends_ask, refuses_ask, skips_ask, ClientDoesDue, retransmits, gives_up, waits, ClientTakes}
 use Rattle.servient_ends.specs.Laws.{ServientRuns}

@@ -15,7 +15,7 @@ use Rattle.thing_core.specs.Thing.{Done}
 use Rattle.servient_outside.specs.declared.net.What.{What}
 use Rattle.servient_outside.specs.declared.net.What.TheVariants as what
 use Rattle.servient_outside.specs.Network.{did}
-use Rattle.servient_core.specs.Trace.{Sighting, at_network, at_handler}
+use Rattle.servient_trace.specs.Trace.{Sighting, at_network, at_handler}
 use Rattle.servient_core.specs.Machine.{Site, State, Move, acts_of_reply, SendsIfAny, RepliesToWait, AnswersWait, AnswersLateWait, Delivers, PerformsByHttp, AnswersDatagram, HearsDatagram, AnswersTaken, TakesNextMessage, ClosesIdle, PollsAndDelivers, notification_bytes, SendsNotification, NothingIsDue, EndsEvent, Follows, EventAndStep}
 use Rattle.servient_ends.specs.Ends.{along, sent_on, back_of, notifications_in, event_at, datagrams_at, datagrams_in}
 use Rattle.servient_ends.proofs.StepParts.{IsNoDatagram, Leaves, late_leave, idle_leave}

@@ -19,7 +19,7 @@ use Rattle.thing_core.specs.Thing.{Done}
 use Rattle.servient_outside.specs.declared.net.What.{What}
 use Rattle.servient_outside.specs.declared.net.What.TheVariants as what
 use Rattle.servient_core.specs.Keeping.{IsSendable, AnswersLateWaits, ClosesAllIdle}
-use Rattle.servient_core.specs.Trace.{Sighting}
+use Rattle.servient_trace.specs.Trace.{Sighting}
 use Rattle.servient_core.specs.Machine.{Site, State, Move, SendsIfAny, RepliesToWait, AnswersWait, AnswersLateWait, Delivers, DeliversEach, observed_target, PerformsByHttp, AnswersDatagram, HearsDatagram, AnswersTaken, TakesNextMessage, ClosesIdle, PollsAndDelivers, Follows}
 use Rattle.servient_core.proofs.OutcomeLaws.{acts_sendable}
 use Rattle.servient_core.proofs.PathLaws.{asked_short}

@@ -10,7 +10,7 @@ use Rattle.thing_site.specs.Site.{emitters_of}
 use Rattle.thing_core.specs.State.{State as ThingState, Emission as ThingEmission, LastValue}
 use Rattle.servient_outside.specs.declared.net.What.{What}
 use Rattle.servient_outside.specs.declared.net.What.TheVariants as what
-use Rattle.servient_core.specs.Trace.{Sighting}
+use Rattle.servient_trace.specs.Trace.{Sighting}
 use Rattle.servient_core.specs.Machine.{Site, State, start, EndsEvent}
 use Rattle.servient_world.specs.World.{WorldState, WorldMove, ask, due, deliver, pass, elsewhere, emit, Datagram, Emission, server_place, purpose_back, acts_for, id_used, with_sent, Receives, ServerTakes, Comes, to_client, to_server, ComesIfSent, from_elsewhere, comes_elsewhere, ClientAsks, sends_ask, refuses_ask, skips_ask, ClientDoesDue, retransmits, gives_up, waits, ClientTakes, Plays, PlaysAll}
 use Rattle.servient_ends.specs.Ends.{EndsState, IsBeginning, act_of, back_of, emitted_by_datagram, emitted_by, notifications_in, as_emission, with_emissions, with_notifications, ServientHears, ServientDoes, Turn, asks_next, does_due, delivers, passes, happens, AtClient, Stays, Arrives, ArrivesIfSent, FromElsewhere, comes_from_elsewhere, is_of_an_end, Besides, Takes, TakesAll}

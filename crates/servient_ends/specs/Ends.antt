@@ -23,7 +23,7 @@ use Rattle.servient_outside.specs.declared.net.Act.{Act}
 use Rattle.servient_outside.specs.declared.net.Act.TheVariants as act
 use Rattle.servient_outside.specs.Network.{Happening, heard, did, broke}
 use Rattle.servient_core.specs.declared.capacity.TheConstants.{MOST_WATCHERS}
-use Rattle.servient_core.specs.Trace.{Sighting, at_network, at_handler}
+use Rattle.servient_trace.specs.Trace.{Sighting, at_network, at_handler}
 use Rattle.servient_core.specs.Machine.{Site, State, start, Move, observed_target, notification_bytes, AnswersDatagram, HearsDatagram, AnswersTaken, TakesNextMessage, PollsAndDelivers, SendsNotification, NothingIsDue, EndsEvent, Follows, EventAndStep}
 use Rattle.servient_world.specs.World.{WorldState, Datagram, Purpose, Emission, client_place, server_place, is_end, other, purpose_of, purpose_back, acts_for, id_used, with_sent, may_come, IsStart, ClientAsks, ClientDoesDue, ClientTakes}
 

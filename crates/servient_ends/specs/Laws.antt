@@ -2,7 +2,7 @@
 use Rattle.std.specs.Prelude.{◌≡◌, ◌≤◌, ◌⊎◌, ℕ, List, ◌∷◌, length, Contains, Option}
 use Rattle.coap_msg.specs.declared.block.Block.{Block}
 use Rattle.servient_outside.specs.declared.net.EventWithBytes.{EventWithBytes}
-use Rattle.servient_core.specs.Trace.{Sighting}
+use Rattle.servient_trace.specs.Trace.{Sighting}
 use Rattle.servient_core.specs.Machine.{Site, start, Run}
 use Rattle.servient_world.specs.World.{WorldMove, Act, answered, observed, PlaysAll}
 use Rattle.servient_world.specs.Laws.{AreForDifferentAsks, AsksLinks, AsksOfBlocks, IsExcuse, IsAnsweredBy, NeverGoBack, HaveASource}

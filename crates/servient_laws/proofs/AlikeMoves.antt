@@ -12,7 +12,7 @@ use Rattle.http_bind.specs.Streams.{HttpReply, Streams, with_connection, without
 use Rattle.servient_outside.specs.declared.net.Act.{Act}
 use Rattle.servient_outside.specs.declared.net.Act.TheVariants as act
 use Rattle.servient_outside.specs.Network.{did}
-use Rattle.servient_core.specs.Trace.{Sighting, at_network}
+use Rattle.servient_trace.specs.Trace.{Sighting, at_network}
 use Rattle.servient_core.specs.Machine.{State, OnHttp, OnCoap, Does, acts_of_reply, Sends, SendsIfAny, RepliesToWait, AnswersWait, MarksObservers, Delivers, DeliversEach, ClosesIdle, notification_bytes, SendsNotification, NothingIsDue, SendsNotifications, AnswersLateWait, EndsEvent}
 use Rattle.servient_core.specs.Keeping.{AnswersWaits, ClosesAllIdle, AnswersLateWaits}
 use Rattle.servient_laws.proofs.AlikeStates.{Alike, SameServer, Agree, AgreeAs, coap_changed, becomes_agree, joined, then_agree, each_agree, until_agree, passing_same, on_http, coap_agree}

@@ -18,7 +18,7 @@ use Rattle.thing_core.proofs.DeterminedLaws.{determined, answered_first, one_dec
 use Rattle.directory_requests.specs.declared.server.Entries.{Entries}
 use Rattle.directory_requests.specs.Asked.{is_of_directory}
 use Rattle.directory_requests.specs.Requests.{DirectoryActs}
-use Rattle.servient_core.specs.Trace.{Sighting, at_handler, calls_in}
+use Rattle.servient_trace.specs.Trace.{Sighting, at_handler, calls_in}
 use Rattle.servient_core.specs.Machine.{Site, State, OnThing, Performs, PerformsOnDirectory, PerformsByHttp, PollsAndDelivers, DeliversEach}
 use Rattle.servient_core.proofs.PartLaws.{the_calls}
 use Rattle.servient_laws.specs.Determined.{HadMemory, Fits}

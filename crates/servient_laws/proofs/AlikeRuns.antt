@@ -34,7 +34,7 @@ use Rattle.servient_outside.specs.declared.net.EventWithBytes.{EventWithBytes}
 use Rattle.servient_outside.specs.declared.net.Act.{Act}
 use Rattle.servient_outside.specs.declared.net.Act.TheVariants as act
 use Rattle.servient_outside.specs.Network.{heard, did}
-use Rattle.servient_core.specs.Trace.{Sighting, at_network}
+use Rattle.servient_trace.specs.Trace.{Sighting, at_network}
 use Rattle.servient_core.specs.Machine.{Site, State, start, OnHttp, OnCoap, Does, Sends, SendsIfAny, PerformsByHttp, observed_target, AnswersAsk, AnswersDatagram, HearsDatagram, AnswersMessage, AnswersTaken, TakesNextMessage, TakesEveryMessage, HearsPiece, PollsAndDelivers, DeliversEach, EndsEvent, Follows, Step, EventAndStep}
 use Rattle.servient_core.specs.Keeping.{Comes}
 use Rattle.servient_laws.specs.Determined.{TellsOfMemory, by_coap, by_http, HadMemory, Fits, RunsAreDetermined}

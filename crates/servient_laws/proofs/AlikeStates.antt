@@ -12,7 +12,7 @@ use Rattle.directory_requests.specs.declared.server.Entries.{Entries}
 use Rattle.coap_exchange.specs.Table.{Exchange, Table}
 use Rattle.coap_bind.specs.declared.server.Server.{Server}
 use Rattle.http_bind.specs.Streams.{Streams}
-use Rattle.servient_core.specs.Trace.{Sighting, call_in, calls_in}
+use Rattle.servient_trace.specs.Trace.{Sighting, call_in, calls_in}
 use Rattle.servient_core.specs.Machine.{State, Move, OnHttp, OnCoap}
 use Rattle.servient_laws.specs.Determined.{HadMemory, Fits}
 

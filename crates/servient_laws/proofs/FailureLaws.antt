@@ -33,28 +33,30 @@ use Rattle.network_consumer.specs.Deeds as operation
 use Rattle.network_consumer.specs.Consuming.{Discovers}
 use Rattle.network_consumer.proofs.FailureLaws.{failing_breaks_the_network}
 use Rattle.servient_core.specs.declared.serving.Served.TheVariants as served
-use Rattle.servient_core.specs.Trace.{Sighting, at_network, at_handler, happened_in}
+use Rattle.servient_trace.specs.Trace.{Sighting, at_network, at_handler, happened_in}
 use Rattle.servient_core.specs.Machine.{Site}
-use Rattle.servient_cli.specs.declared.derivation.Planned.{Planned}
-use Rattle.servient_cli.specs.declared.replay.Inputs.{Inputs}
+use Rattle.command_stages.specs.declared.derivation.Planned.{Planned}
+use Rattle.command_stages.specs.declared.inputs.Inputs.{Inputs}
 use Rattle.servient_cli.specs.declared.storming.TheConstants.{STORM_EXCHANGES}
-use Rattle.servient_cli.specs.Lines.{network_line}
-use Rattle.servient_cli.specs.Stages.{Deed, did_read, did_fail, did_see, did_forget, did_write, read_in, reads_in, sees, shows_all, sightings_in, text_in, HasFailed, Outcome, goes_on, ends, AndThen, ends_first, goes_further, Around}
-use Rattle.servient_cli.specs.Reading.{ReadsFile, is_read, is_absent, is_unreadable, is_long, file_memory, file_read, ReadsTree, is_tree, has_no_tree, tree_memory, longest_json}
+use Rattle.command_stages.specs.Lines.{network_line}
+use Rattle.command_stages.specs.Stages.{Deed, did_read, did_fail, did_see, did_forget, did_write, read_in, reads_in, sees, shows_all, sightings_in, text_in, HasFailed, Outcome, goes_on, ends, AndThen, ends_first, goes_further, Around}
+use Rattle.command_stages.specs.Reading.{ReadsFile, is_read, is_absent, is_unreadable, is_long, file_memory, file_read, ReadsTree, is_tree, has_no_tree, tree_memory, longest_json}
 use Rattle.servient_script.specs.Script.{longest_script}
-use Rattle.servient_cli.specs.Replaying.{Plans, TakesBuiltIn, is_built_in, built_in_memory, plan_name, ReadsEvents, ReadsInputs, HasRead, has_read, RunsOn, ReadsScript, is_script, is_no_script, script_memory, RunsScript, is_whole, is_spent, run_memory}
+use Rattle.command_stages.specs.Inputs.{Plans, TakesBuiltIn, is_built_in, built_in_memory, plan_name, ReadsEvents, ReadsInputs, HasRead, has_read, ReadsScript, is_script, is_no_script, script_memory}
+use Rattle.servient_cli.specs.Replaying.{RunsOn, RunsScript, is_whole, is_spent, run_memory}
 use Rattle.servient_cli.specs.Storming.{RunsStorm, is_counted, storm_memory, Storms, StormsOn, with_few_exchanges}
-use Rattle.servient_cli.specs.Consuming.{TakesDescription, is_taken, has_fault, description_memory, DescriptionIn, ReadsDescription, ReadsValue, HasInput, has_input, HasNoInput, has_no_input, ReadsInput, Chooses, is_chosen, has_no_affordance, has_no_form, choose_memory, deeds_of, status_after, line_after, EndsAfter, has_ended, line_memory, IsOperated, Operates, OperatesOn, ConsumesBy, ConsumesThing}
+use Rattle.command_stages.specs.Describing.{TakesDescription, is_taken, has_fault, description_memory, DescriptionIn, ReadsDescription, ReadsValue, HasInput, has_input, HasNoInput, has_no_input, ReadsInput}
+use Rattle.servient_cli.specs.Consuming.{Chooses, is_chosen, has_no_affordance, has_no_form, choose_memory, deeds_of, status_after, line_after, EndsAfter, has_ended, line_memory, IsOperated, Operates, OperatesOn, ConsumesBy, ConsumesThing}
 use Rattle.servient_cli.specs.Opening.{Exposes, is_exposed, is_misfit, expose_memory, Opens}
 use Rattle.servient_cli.specs.Listening.{Listens, is_listening, cannot_listen, place_memory, listen_memory, ServesEvents, has_served, Endures, has_endured, ServesBy, ServesPlanned}
-use Rattle.servient_cli.proofs.StageLaws.{shows_net}
-use Rattle.servient_core.specs.Sections.{Shown, saw as was_seen, forgot, seen_in}
+use Rattle.command_stages.proofs.StageLaws.{shows_net}
+use Rattle.servient_trace.specs.ShownSections.{Shown, saw as was_seen, forgot, seen_in}
 use Rattle.servient_core.specs.declared.sections.SectionsEnd.TheVariants as ending
 use Rattle.command_words.specs.declared.command.Budget.{Budget}
 use Rattle.command_words.specs.declared.command.Budget.TheVariants as budgets
-use Rattle.servient_cli.specs.Checking.{Checks, Judges, is_valid, is_refused, judge_memory}
-use Rattle.servient_cli.specs.Deriving.{ReadsPlan, is_plan, is_no_plan, plan_memory, AddsModel, is_added, is_not_added, add_memory, TakesModel, TakesModels, IsPlanned, is_planned, ReadsPlanned, Derives, is_derived, derive_memory, Prints, is_printed, print_memory, DerivesAndPrints}
-use Rattle.servient_cli.specs.Deriving as plans
+use Rattle.command_stages.specs.Checking.{Checks, Judges, is_valid, is_refused, judge_memory}
+use Rattle.command_stages.specs.Deriving.{ReadsPlan, is_plan, is_no_plan, plan_memory, AddsModel, is_added, is_not_added, add_memory, TakesModel, TakesModels, IsPlanned, is_planned, ReadsPlanned, Derives, is_derived, derive_memory, Prints, is_printed, print_memory, DerivesAndPrints}
+use Rattle.command_stages.specs.Deriving as plans
 use Rattle.servient_cli.specs.Command.{Does, Commands, is_no_command, is_command, words_memory, IsReported}
 use Rattle.servient_laws.specs.Failures.{IsMissing, FailuresAreCounted}
 

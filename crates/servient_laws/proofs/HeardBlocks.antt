@@ -26,7 +26,7 @@ use Rattle.thing_ops.specs.declared.outcome.Outcome.{Outcome}
 use Rattle.thing_handler.specs.Turns.{HandlerCall}
 use Rattle.thing_core.specs.State.{State as ThingState}
 use Rattle.thing_core.specs.Thing.{Done, Acts}
-use Rattle.servient_core.specs.Trace.{Sighting, call_in, calls_in}
+use Rattle.servient_trace.specs.Trace.{Sighting, call_in, calls_in}
 use Rattle.servient_core.specs.Machine.{Site, State, AnswersDatagram}
 use Rattle.servient_core.specs.Meaning.{by_coap}
 use Rattle.servient_core.proofs.MeaningLaws.{rest_quiet}

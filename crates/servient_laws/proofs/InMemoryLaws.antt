@@ -7,7 +7,7 @@ use Rattle.servient_outside.specs.Files.{FilesSeen}
 use Rattle.servient_outside.specs.Network.{NetSeen}
 use Rattle.servient_outside.specs.Out.{OutSeen}
 use Rattle.servient_outside.specs.OutMemory as output
-use Rattle.servient_cli.specs.Stages.{Around}
+use Rattle.command_stages.specs.Stages.{Around}
 use Rattle.servient_cli.specs.Command.{is_networked}
 use Rattle.servient_laws.specs.InMemory.{NetworkHolds, NothingFailsInMemory}
 

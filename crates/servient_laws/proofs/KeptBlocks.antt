@@ -16,7 +16,7 @@ use Rattle.thing_site.specs.Site.{Placed, events_of}
 use Rattle.servient_outside.specs.declared.net.What.{What}
 use Rattle.servient_outside.specs.declared.net.What.TheVariants as what
 use Rattle.servient_outside.specs.declared.net.EventWithBytes.{EventWithBytes}
-use Rattle.servient_core.specs.Trace.{Sighting}
+use Rattle.servient_trace.specs.Trace.{Sighting}
 use Rattle.servient_core.specs.Machine.{Site, State, Move, OnCoap, SendsIfAny, RepliesToWait, AnswersWait, AnswersLateWait, Delivers, DeliversEach, PerformsByHttp, AnswersTaken, TakesNextMessage, HearsDatagram, ClosesIdle, PollsAndDelivers, SendsNotification, NothingIsDue, EndsEvent, Follows, Step, EventAndStep}
 
 -- the bodies, the parts and the links are as they were, and so is the moment

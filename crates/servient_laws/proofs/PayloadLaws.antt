@@ -29,7 +29,7 @@ use Rattle.thing_ops.specs.Requests.{RequestSeen}
 use Rattle.http_bind.specs.Streams.{HttpReply, Streams, connection_at, Answers as AnswersRequest, lets_wait, sends_reply, waits_of}
 use Rattle.servient_outside.specs.declared.net.Act.TheVariants as act
 use Rattle.servient_outside.specs.Network.{did}
-use Rattle.servient_core.specs.Trace.{Sighting, at_network}
+use Rattle.servient_trace.specs.Trace.{Sighting, at_network}
 use Rattle.servient_core.specs.Machine.{Site, State, Sends, SendsIfAny, PerformsByHttp, AnswersAsk, AnswersMessage}
 use Rattle.servient_core.specs.Meaning.{Message, by_coap, by_http}
 use Rattle.servient_laws.specs.Payloads.{AsksForAll, tags_for, SaysByCoap, SaysByHttp, Says, PayloadsAreOfOutcomes}

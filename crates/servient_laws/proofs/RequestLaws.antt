@@ -28,7 +28,7 @@ use Rattle.servient_outside.specs.declared.net.What.TheVariants as what
 use Rattle.servient_outside.specs.declared.net.What.{What}
 use Rattle.servient_outside.specs.declared.net.EventWithBytes.{EventWithBytes}
 use Rattle.servient_outside.specs.Network.{heard}
-use Rattle.servient_core.specs.Trace.{Sighting, at_network, call_in, calls_in}
+use Rattle.servient_trace.specs.Trace.{Sighting, at_network, call_in, calls_in}
 use Rattle.servient_core.specs.Machine.{Site, State, Follows, HearsDatagram, AnswersDatagram, EndsEvent, Step, EventAndStep}
 use Rattle.servient_core.specs.Runs.{HasHistory}
 use Rattle.servient_core.proofs.MeaningLaws.{ends_quiet}

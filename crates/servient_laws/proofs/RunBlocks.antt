@@ -29,7 +29,7 @@ use Rattle.servient_outside.specs.declared.net.EventWithBytes.{EventWithBytes}
 use Rattle.servient_outside.specs.Network.{heard}
 use Rattle.std.proofs.lemmas.List.Elements.{filter_map-append}
 use Rattle.thing_handler.specs.Turns.{HandlerCall}
-use Rattle.servient_core.specs.Trace.{Sighting, at_network, call_in, calls_in}
+use Rattle.servient_trace.specs.Trace.{Sighting, at_network, call_in, calls_in}
 use Rattle.servient_core.specs.Links.{segments_of, text_of_links}
 use Rattle.servient_core.specs.Machine.{Site, State, start, AnswersDatagram, EndsEvent, EventAndStep, Run}
 use Rattle.servient_core.proofs.MeaningLaws.{ends_quiet}

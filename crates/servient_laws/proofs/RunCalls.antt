@@ -17,7 +17,7 @@ use Rattle.servient_outside.specs.declared.net.What.{What}
 use Rattle.servient_outside.specs.declared.net.What.TheVariants as what
 use Rattle.servient_outside.specs.declared.net.EventWithBytes.{EventWithBytes}
 use Rattle.servient_outside.specs.declared.net.Act.TheVariants as act
-use Rattle.servient_core.specs.Trace.{Sighting, at_handler, call_in, calls_in}
+use Rattle.servient_trace.specs.Trace.{Sighting, at_handler, call_in, calls_in}
 use Rattle.servient_core.specs.Machine.{State, acts_of_reply, AnswersDatagram, HearsDatagram, PerformsByHttp, AnswersTaken, TakesNextMessage, HearsPiece, PollsAndDelivers, Follows, EventAndStep, Run}
 use Rattle.servient_core.specs.Meaning.{by_coap, by_http}
 use Rattle.servient_core.proofs.PartLaws.{the_calls}

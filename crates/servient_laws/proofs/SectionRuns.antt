@@ -9,9 +9,10 @@ use Rattle.thing_handler.specs.Turns.{HandlerCall}
 use Rattle.servient_outside.specs.declared.net.EventWithBytes.{EventWithBytes}
 use Rattle.servient_core.specs.declared.sections.SectionsEnd.{SectionsEnd}
 use Rattle.servient_core.specs.declared.sections.SectionsEnd.TheVariants as ending
-use Rattle.servient_core.specs.Trace.{Sighting, call_in, calls_in}
+use Rattle.servient_trace.specs.Trace.{Sighting, call_in, calls_in}
 use Rattle.servient_core.specs.Machine.{Site, State, start, EventAndStep, Run}
-use Rattle.servient_core.specs.Sections.{Shown, seen_in, EndsSections, ServesInSections}
+use Rattle.servient_trace.specs.ShownSections.{Shown, seen_in}
+use Rattle.servient_core.specs.Sections.{EndsSections, ServesInSections}
 use Rattle.servient_laws.specs.Calls.{IsFit}
 use Rattle.servient_laws.specs.Requests.{ComesTo}
 use Rattle.servient_laws.specs.Sections.{TakesAmong, SectionsKeepPromises}

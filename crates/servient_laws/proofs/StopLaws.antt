@@ -21,7 +21,7 @@ use Rattle.servient_outside.specs.declared.net.Act.TheVariants as act
 use Rattle.servient_outside.specs.Network.{heard, broke, next_event}
 use Rattle.servient_core.specs.declared.serving.Served.{Served}
 use Rattle.servient_core.specs.declared.serving.Served.TheVariants as served
-use Rattle.servient_core.specs.Trace.{Sighting, at_network, call_in, calls_in}
+use Rattle.servient_trace.specs.Trace.{Sighting, at_network, call_in, calls_in}
 use Rattle.servient_core.specs.Machine.{Site, State, OnThing, acts_of_reply, AnswersDatagram, HearsDatagram, PerformsByHttp, AnswersTaken, TakesNextMessage, HearsPiece, PollsAndDelivers, Follows, EventAndStep, Run}
 use Rattle.servient_core.specs.Meaning.{by_coap, by_http}
 use Rattle.servient_core.specs.Promises.{ActsOnNothing}

@@ -37,7 +37,7 @@ use Rattle.thing_ops.specs.declared.outcome.Outcome.TheVariants as outcome
 use Rattle.thing_core.specs.Thing.{Done, Acts}
 use Rattle.servient_outside.specs.declared.net.EventWithBytes.{EventWithBytes}
 use Rattle.servient_outside.specs.Network.{heard}
-use Rattle.servient_core.specs.Trace.{Sighting, at_network, calls_in}
+use Rattle.servient_trace.specs.Trace.{Sighting, at_network, calls_in}
 use Rattle.servient_core.specs.Machine.{Site, State, AnswersDatagram}
 use Rattle.servient_core.specs.Meaning.{by_coap}
 use Rattle.servient_laws.specs.Payloads.{SaysByCoap}

@@ -12,7 +12,7 @@ use Rattle.thing_handler.specs.Turns.{HandlerCall, answered, missed}
 use Rattle.thing_site.specs.Site.{Placed, ExposedThing}
 use Rattle.thing_site.specs.Refusals.{IsRefusedBySchema, longest_value}
 use Rattle.servient_outside.specs.declared.net.EventWithBytes.{EventWithBytes}
-use Rattle.servient_core.specs.Trace.{Sighting, calls_in}
+use Rattle.servient_trace.specs.Trace.{Sighting, calls_in}
 use Rattle.servient_core.specs.Machine.{Site, State, Run}
 
 -- ---- values

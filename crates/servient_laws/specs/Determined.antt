@@ -14,7 +14,7 @@ use Rattle.servient_outside.specs.declared.net.EventWithBytes.{EventWithBytes}
 use Rattle.servient_outside.specs.declared.net.Act.{Act}
 use Rattle.servient_outside.specs.declared.net.Act.TheVariants as act
 use Rattle.servient_outside.specs.Network.{heard, did, broke}
-use Rattle.servient_core.specs.Trace.{Sighting, at_network, at_handler, calls_in}
+use Rattle.servient_trace.specs.Trace.{Sighting, at_network, at_handler, calls_in}
 use Rattle.servient_core.specs.Machine.{State, start, Run}
 
 -- An act is the reply, by either binding, to a request for which the server was out of memory.

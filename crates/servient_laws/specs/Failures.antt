@@ -5,7 +5,7 @@ use Rattle.servient_outside.specs.declared.files.FileRead.{FileRead}
 use Rattle.servient_outside.specs.declared.files.HeldFile.{HeldFile}
 use Rattle.servient_outside.specs.Files.{content_of}
 use Rattle.servient_outside.specs.Out.{OutSeen}
-use Rattle.servient_cli.specs.Stages.{Deed, reads_in, Around}
+use Rattle.command_stages.specs.Stages.{Deed, reads_in, Around}
 use Rattle.servient_cli.specs.Command.{Ends}
 
 -- one of the files that were read isn't there, where it is recorded what the files hold

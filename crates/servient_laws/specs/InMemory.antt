@@ -7,7 +7,7 @@ use Rattle.servient_outside.specs.declared.out_memory.OutMemory.{OutMemory}
 use Rattle.servient_outside.specs.FilesMemory as files
 use Rattle.servient_outside.specs.Out.{OutSeen}
 use Rattle.servient_outside.specs.OutMemory as output
-use Rattle.servient_cli.specs.Stages.{Around, text_in}
+use Rattle.command_stages.specs.Stages.{Around, text_in}
 use Rattle.servient_cli.specs.Command.{Ends, NothingFailed, is_networked}
 
 -- these files have no calls that fail, and none failed

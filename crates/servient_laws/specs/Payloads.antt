@@ -17,7 +17,7 @@ use Rattle.http_bind.specs.Replying.{reply_head, reply_body}
 use Rattle.http_bind.specs.Streams.{Connection, connection_at, waits_of}
 use Rattle.servient_outside.specs.declared.net.Act.TheVariants as act
 use Rattle.servient_outside.specs.Network.{did}
-use Rattle.servient_core.specs.Trace.{Sighting, at_network}
+use Rattle.servient_trace.specs.Trace.{Sighting, at_network}
 use Rattle.servient_core.specs.Machine.{Site, State}
 use Rattle.servient_core.specs.Meaning.{Message, by_coap, by_http, ComesTo}
 use Rattle.thing_core.specs.Thing.{Done}

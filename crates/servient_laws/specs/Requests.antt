@@ -15,7 +15,7 @@ use Rattle.servient_outside.specs.declared.net.What.TheVariants as what
 use Rattle.servient_outside.specs.declared.net.EventWithBytes.{EventWithBytes}
 use Rattle.servient_outside.specs.declared.net.Act.TheVariants as act
 use Rattle.servient_outside.specs.Network.{heard, did}
-use Rattle.servient_core.specs.Trace.{Sighting, at_network, calls_in}
+use Rattle.servient_trace.specs.Trace.{Sighting, at_network, calls_in}
 use Rattle.servient_core.specs.Machine.{Site, State, start, EventAndStep, EndsEvent, Run}
 use Rattle.servient_core.specs.Runs.{AreRequestsFrom}
 

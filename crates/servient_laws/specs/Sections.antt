@@ -8,10 +8,11 @@ use Rattle.coap_bind.specs.Server.{arrival}
 use Rattle.servient_outside.specs.declared.net.EventWithBytes.{EventWithBytes}
 use Rattle.servient_core.specs.declared.sections.RunBounds.{RunBounds}
 use Rattle.servient_core.specs.declared.sections.SectionsEnd.{SectionsEnd}
-use Rattle.servient_core.specs.Trace.{Sighting, calls_in}
+use Rattle.servient_trace.specs.Trace.{Sighting, calls_in}
 use Rattle.servient_core.specs.Machine.{Site, State, start, EventAndStep, Run}
 use Rattle.servient_core.specs.Runs.{AreRequestsFrom}
-use Rattle.servient_core.specs.Sections.{Shown, seen_in, ServesInSections}
+use Rattle.servient_trace.specs.ShownSections.{Shown, seen_in}
+use Rattle.servient_core.specs.Sections.{ServesInSections}
 use Rattle.servient_laws.specs.Calls.{IsFit}
 use Rattle.servient_laws.specs.Requests.{Brings, moment_of, ActsNoMore, IsTurnedAway}
 

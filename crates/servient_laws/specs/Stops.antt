@@ -14,7 +14,7 @@ use Rattle.servient_outside.specs.declared.net.What.{What}
 use Rattle.servient_outside.specs.declared.net.What.TheVariants as what
 use Rattle.servient_outside.specs.declared.net.EventWithBytes.{EventWithBytes}
 use Rattle.servient_core.specs.declared.serving.Served.{Served}
-use Rattle.servient_core.specs.Trace.{Sighting, calls_in, Outside, Shows}
+use Rattle.servient_trace.specs.Trace.{Sighting, calls_in, Outside, Shows}
 use Rattle.servient_core.specs.Machine.{Site, State}
 use Rattle.servient_core.specs.Serving.{Serves}
 

@@ -24,7 +24,7 @@ use Rattle.thing_ops.specs.Outcomes.{payload_of}
 use Rattle.thing_ops.specs.Requests.{RequestSeen}
 use Rattle.thing_core.specs.Thing.{Done, Acts}
 use Rattle.servient_outside.specs.declared.net.EventWithBytes.{EventWithBytes}
-use Rattle.servient_core.specs.Trace.{Sighting, calls_in}
+use Rattle.servient_trace.specs.Trace.{Sighting, calls_in}
 use Rattle.servient_core.specs.Links.{segments_of, text_of_links}
 use Rattle.servient_core.specs.Machine.{Site, State, start, EventAndStep, Run}
 use Rattle.servient_laws.specs.Payloads.{SaysByCoap}

@@ -6,8 +6,8 @@ use Rattle.command_words.specs.declared.command.Command.{Command}
 use Rattle.command_words.specs.declared.command.Command.TheVariants.{Check, Derive}
 use Rattle.servient_outside.specs.Network.{events_in}
 use Rattle.servient_outside.specs.Out.{OutSeen}
-use Rattle.servient_core.specs.Trace.{happened_in}
-use Rattle.servient_cli.specs.Stages.{Deed, sightings_in, Around}
+use Rattle.servient_trace.specs.Trace.{happened_in}
+use Rattle.command_stages.specs.Stages.{Deed, sightings_in, Around}
 use Rattle.servient_cli.specs.Command.{Commands, EndsAndReports, Ends, IsNoCommand, is_serving}
 
 -- no event was taken from the network

@@ -6,8 +6,8 @@
 #![tactic(auto)]
 
 ghost use Rattle.std.specs.Prelude.{◌≡◌, drop};
-ghost use Rattle.servient_core.specs.Trace.{outside};
-ghost use Rattle.servient_cli.specs.Stages.{around};
+ghost use Rattle.servient_trace.specs.Trace.{outside};
+ghost use Rattle.command_stages.specs.Stages.{around};
 ghost use Rattle.servient_cli.specs.Command.{Ends};
 
 use servient_base::NoMemory;

@@ -14,7 +14,7 @@ use Rattle.servient_outside.specs.declared.net.Act.{Act}
 use Rattle.servient_outside.specs.declared.net.EventWithBytes.{EventWithBytes}
 use Rattle.servient_outside.specs.Told.{Continues}
 use Rattle.servient_outside.specs.Network.{Happening, heard, did, broke, events_in, break_count, acts_in, NetSeen, Leaves}
-use Rattle.servient_core.specs.Trace.{Sighting, at_network, at_handler, happened_in, calls_in, outside, Shows}
+use Rattle.servient_trace.specs.Trace.{Sighting, at_network, at_handler, happened_in, calls_in, outside, Shows}
 use Rattle.servient_core.specs.Machine.{Site, State, Step, EventAndStep, HearsDatagram}
 use Rattle.servient_core.specs.Serving.{StandsFor}
 use Rattle.servient_core.specs.declared.layers.Layers.{Layers}

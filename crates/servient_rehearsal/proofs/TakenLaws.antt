@@ -27,7 +27,7 @@ use Rattle.coap_bind.specs.Writing.{notification}
 use Rattle.servient_outside.specs.declared.net.What.{What}
 use Rattle.servient_outside.specs.declared.net.What.TheVariants as what
 use Rattle.servient_core.specs.declared.capacity.TheConstants.{MOST_WATCHERS}
-use Rattle.servient_core.specs.Trace.{Sighting}
+use Rattle.servient_trace.specs.Trace.{Sighting}
 use Rattle.servient_core.specs.Machine.{Site}
 use Rattle.servient_world.specs.World.{WorldState, Datagram, Purpose, Value, client_place, server_place, reply_to, notification_for, value_by, taken_by, ClientAsks, sends_ask, refuses_ask, skips_ask, ClientDoesDue, retransmits, gives_up, waits}
 use Rattle.servient_world.proofs.Places.{all_at, at_last, at_more}

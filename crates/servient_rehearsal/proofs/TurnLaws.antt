@@ -9,7 +9,7 @@ use Rattle.coap_client.specs.declared.state.State.{State as ClientState}
 use Rattle.thing_handler.specs.Handler.{Seen}
 use Rattle.thing_handler.specs.Turns.{HandlerCall, RackShows}
 use Rattle.thing_handler.proofs.RackLaws.{rack_shows_none, rack_shows_then}
-use Rattle.servient_core.specs.Trace.{Sighting, call_in, calls_in}
+use Rattle.servient_trace.specs.Trace.{Sighting, call_in, calls_in}
 use Rattle.servient_core.specs.Machine.{Site}
 use Rattle.servient_core.specs.Serving.{StandsFor}
 use Rattle.servient_core.specs.declared.layers.Layers.{Layers}

@@ -6,7 +6,7 @@ use Rattle.coap_msg.specs.declared.block.Block.{Block}
 use Rattle.coap_client.specs.declared.state.State.{State as ClientState}
 use Rattle.thing_handler.specs.Handler.{Seen}
 use Rattle.thing_handler.specs.Turns.{RackShows}
-use Rattle.servient_core.specs.Trace.{Sighting, calls_in}
+use Rattle.servient_trace.specs.Trace.{Sighting, calls_in}
 use Rattle.servient_core.specs.Machine.{Site, start}
 use Rattle.servient_core.specs.Serving.{StandsFor}
 use Rattle.servient_core.specs.declared.layers.Layers.{Layers}

@@ -5,7 +5,7 @@ use Rattle.coap_client.specs.declared.news.News.{News}
 use Rattle.coap_client.specs.declared.news.News.TheVariants as news
 use Rattle.servient_outside.specs.declared.net.What.{What}
 use Rattle.servient_outside.specs.declared.net.What.TheVariants as what
-use Rattle.servient_core.specs.Trace.{Sighting}
+use Rattle.servient_trace.specs.Trace.{Sighting}
 use Rattle.servient_core.specs.Machine.{Site}
 use Rattle.servient_world.specs.World.{Datagram}
 use Rattle.servient_ends.specs.Ends.{EndsState, Turn, asks_next, does_due, delivers, passes, happens, Arrives, too_late, to_client, to_servient, ArrivesIfSent, FromElsewhere, comes_from_elsewhere, is_of_an_end, Besides, Takes}

@@ -1,10 +1,10 @@
 use Rattle.std.proofs.Common.{List, ℕ, subst}
 use Rattle.std.proofs.lemmas.Result.{err_from_is_err_and}
-use Rattle.servient_cli.specs.Stages.{around}
-use Rattle.servient_cli.specs.Ending.{EndsBy}
-use Rattle.servient_cli.specs.Reading.{ReadsFile, longest_json}
-use Rattle.servient_cli.specs.Checking.{Checks}
-use Rattle.servient_cli.proofs.StageLaws.{then_ends, error_ends}
+use Rattle.command_stages.specs.Stages.{around}
+use Rattle.command_stages.specs.Ending.{EndsBy}
+use Rattle.command_stages.specs.Reading.{ReadsFile, longest_json}
+use Rattle.command_stages.specs.Checking.{Checks}
+use Rattle.command_stages.proofs.StageLaws.{then_ends, error_ends}
 use Rattle.servient_cli.proofs.commands.check_from.Goals as goal
 
 pub returns-in_err-content : goal.returns-in_err-content

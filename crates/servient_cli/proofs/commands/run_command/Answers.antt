@@ -4,12 +4,13 @@ use Rattle.std.proofs.lemmas.Result.{err_from_is_err_and}
 use Rattle.command_words.specs.declared.command.Command.{Command}
 use Rattle.command_words.specs.declared.command.Command.TheVariants.{Check, Derive, Serve}
 use Rattle.thing_site.specs.Exposing.{kinds_of}
-use Rattle.servient_core.specs.Trace.{outside}
-use Rattle.servient_cli.specs.Stages.{around}
+use Rattle.servient_trace.specs.Trace.{outside}
+use Rattle.command_stages.specs.Stages.{around}
 use Rattle.servient_cli.specs.Command.{Does}
-use Rattle.servient_cli.specs.Ending.{EndsBy}
-use Rattle.servient_cli.specs.Replaying.{ReadsInputs, RunsOn, Replays, plan_name}
-use Rattle.servient_cli.proofs.StageLaws.{then_ends, error_ends}
+use Rattle.command_stages.specs.Ending.{EndsBy}
+use Rattle.command_stages.specs.Inputs.{ReadsInputs, plan_name}
+use Rattle.servient_cli.specs.Replaying.{RunsOn, Replays}
+use Rattle.command_stages.proofs.StageLaws.{then_ends, error_ends}
 use Rattle.servient_cli.proofs.commands.run_command.Goals as goal
 
 pub returns-in-Check-clause-ends : goal.returns-in-Check-clause-ends

@@ -1,7 +1,7 @@
 use Rattle.std.proofs.Common.{refl}
-use Rattle.servient_cli.specs.Lines.{no_affordance_line, no_form_line}
+use Rattle.command_stages.specs.Lines.{no_affordance_line, no_form_line}
 use Rattle.servient_cli.specs.Consuming.{Chooses, is_chosen, has_no_affordance, has_no_form, choose_memory}
-use Rattle.servient_cli.proofs.StageLaws.{goes_quietly, ends_memory, writes_line}
+use Rattle.command_stages.proofs.StageLaws.{goes_quietly, ends_memory, writes_line}
 use Rattle.servient_cli.proofs.consumption.choose_form.Goals as goal
 
 pub returns-in-Ok-clause-stage : goal.returns-in-Ok-clause-stage

@@ -1,8 +1,9 @@
 use Rattle.std.specs.Prelude.{Err}
 use Rattle.std.proofs.lemmas.Result.{err_from_is_err_and}
-use Rattle.servient_core.specs.Trace.{outside}
-use Rattle.servient_cli.specs.Stages.{around}
-use Rattle.servient_cli.specs.Consuming.{ReadsInput, OperatesOn}
+use Rattle.servient_trace.specs.Trace.{outside}
+use Rattle.command_stages.specs.Stages.{around}
+use Rattle.command_stages.specs.Describing.{ReadsInput}
+use Rattle.servient_cli.specs.Consuming.{OperatesOn}
 use Rattle.servient_cli.proofs.ConsumingStages.{described_error, described_then, error_prints, then_prints}
 use Rattle.servient_cli.proofs.UsageStages.{input_not}
 use Rattle.servient_cli.proofs.consumption.consume_thing.Goals as goal

@@ -1,6 +1,6 @@
 use Rattle.std.proofs.lemmas.Result.{err_from_is_err_and}
-use Rattle.servient_core.specs.Trace.{outside}
-use Rattle.servient_cli.specs.Stages.{around}
+use Rattle.servient_trace.specs.Trace.{outside}
+use Rattle.command_stages.specs.Stages.{around}
 use Rattle.servient_cli.proofs.ConsumingStages.{form_error, form_then}
 use Rattle.servient_cli.proofs.consumption.operate_by_form.Goals as goal
 

@@ -1,10 +1,10 @@
 use Rattle.std.proofs.Common.{[], refl}
 use Rattle.servient_core.specs.declared.sections.SectionsEnd.TheVariants as ending
-use Rattle.servient_core.specs.Trace.{outside}
+use Rattle.servient_trace.specs.Trace.{outside}
 use Rattle.servient_core.specs.Machine.{start}
-use Rattle.servient_cli.specs.Lines.{network_line, spent_line}
+use Rattle.command_stages.specs.Lines.{network_line, spent_line}
 use Rattle.servient_cli.specs.Listening.{Endures, has_endured}
-use Rattle.servient_cli.proofs.StageLaws.{sections_end}
+use Rattle.command_stages.proofs.StageLaws.{sections_end}
 use Rattle.servient_cli.proofs.listening.endure.Goals as goal
 
 pub returns-in-Stopped : goal.returns-in-Stopped

@@ -4,12 +4,12 @@ use Rattle.servient_outside.specs.declared.net.Listened.TheVariants as listened
 use Rattle.servient_outside.specs.declared.place.Place.{Place}
 use Rattle.servient_outside.specs.Network.{listens_as}
 use Rattle.servient_plan.specs.Plan.{place_of}
-use Rattle.servient_core.specs.Trace.{outside}
-use Rattle.servient_cli.specs.Lines.{network_line, memory_line}
-use Rattle.servient_cli.specs.Stages.{around}
-use Rattle.servient_cli.specs.Ending.{ComesOut}
+use Rattle.servient_trace.specs.Trace.{outside}
+use Rattle.command_stages.specs.Lines.{network_line, memory_line}
+use Rattle.command_stages.specs.Stages.{around}
+use Rattle.command_stages.specs.Ending.{ComesOut}
 use Rattle.servient_cli.specs.Listening.{Listens, is_listening, cannot_listen, place_memory, listen_memory}
-use Rattle.servient_cli.proofs.StageLaws.{ends_memory, happens_end, happens_goes}
+use Rattle.command_stages.proofs.StageLaws.{ends_memory, happens_end, happens_goes}
 use Rattle.servient_cli.proofs.listening.listen.Goals as goal
 
 pub returns-in_err-place : goal.returns-in_err-place

@@ -1,8 +1,8 @@
 use Rattle.std.proofs.Common.{sym, subst}
 use Rattle.command_words.specs.declared.command.Budget.{Budget}
-use Rattle.servient_core.specs.Trace.{outside}
-use Rattle.servient_cli.specs.Stages.{around}
-use Rattle.servient_cli.specs.Ending.{EndsBy}
+use Rattle.servient_trace.specs.Trace.{outside}
+use Rattle.command_stages.specs.Stages.{around}
+use Rattle.command_stages.specs.Ending.{EndsBy}
 use Rattle.servient_cli.specs.Listening.{ServesBy}
 use Rattle.servient_cli.proofs.listening.serve_by.Goals as goal
 

@@ -1,11 +1,11 @@
 use Rattle.std.proofs.Common.{[], ℕ, refl, subst}
 use Rattle.servient_core.specs.declared.serving.Served.TheVariants as served
-use Rattle.servient_core.specs.Trace.{outside}
+use Rattle.servient_trace.specs.Trace.{outside}
 use Rattle.servient_core.specs.Machine.{start}
 use Rattle.servient_core.specs.Serving.{Serves}
-use Rattle.servient_cli.specs.Lines.{network_line, spent_line}
+use Rattle.command_stages.specs.Lines.{network_line, spent_line}
 use Rattle.servient_cli.specs.Listening.{ServesEvents, has_served}
-use Rattle.servient_cli.proofs.StageLaws.{seen_end}
+use Rattle.command_stages.proofs.StageLaws.{seen_end}
 use Rattle.servient_cli.proofs.listening.serve_events.Goals as goal
 
 pub returns-in-Stopped : goal.returns-in-Stopped

@@ -3,11 +3,11 @@ use Rattle.std.specs.Prelude.{Err}
 use Rattle.std.proofs.lemmas.Result.{err_from_is_err_and}
 use Rattle.thing_site.specs.Exposing.{kinds_of}
 use Rattle.servient_plan.specs.Plan.{place_of}
-use Rattle.servient_core.specs.Trace.{outside}
-use Rattle.servient_cli.specs.Stages.{AndThen, around}
+use Rattle.servient_trace.specs.Trace.{outside}
+use Rattle.command_stages.specs.Stages.{AndThen, around}
 use Rattle.servient_cli.specs.Opening.{Opens}
 use Rattle.servient_cli.specs.Listening.{Listens, ServesBy}
-use Rattle.servient_cli.proofs.StageLaws.{then_ends, error_ends}
+use Rattle.command_stages.proofs.StageLaws.{then_ends, error_ends}
 use Rattle.servient_cli.proofs.listening.serve_planned.Goals as goal
 
 pub returns-in_err-servient : goal.returns-in_err-servient

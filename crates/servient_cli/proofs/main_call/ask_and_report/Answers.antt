@@ -1,6 +1,6 @@
 use Rattle.std.proofs.Common.{[]}
-use Rattle.servient_core.specs.Trace.{outside}
-use Rattle.servient_cli.specs.Stages.{around}
+use Rattle.servient_trace.specs.Trace.{outside}
+use Rattle.command_stages.specs.Stages.{around}
 use Rattle.servient_cli.specs.Command.{Does}
 use Rattle.servient_cli.proofs.ConsumingStages.{printing_reported, printing_failed}
 use Rattle.servient_cli.proofs.main_call.ask_and_report.Goals as goal

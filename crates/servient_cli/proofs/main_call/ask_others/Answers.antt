@@ -1,8 +1,8 @@
 use Rattle.std.proofs.Common.{ℕ, List, subst, sym}
 use Rattle.command_words.specs.declared.command.Command.{Command}
 use Rattle.command_words.specs.declared.command.Command.TheVariants.{Discover}
-use Rattle.servient_core.specs.Trace.{outside}
-use Rattle.servient_cli.specs.Stages.{around}
+use Rattle.servient_trace.specs.Trace.{outside}
+use Rattle.command_stages.specs.Stages.{around}
 use Rattle.servient_cli.specs.Command.{Does}
 use Rattle.servient_cli.specs.Consuming.{EndsPrinting}
 use Rattle.servient_cli.proofs.main_call.ask_others.Goals as goal

@@ -2,7 +2,7 @@ use Rattle.std.proofs.Common.{inl, ◌≡◌, ◌≤◌, ℕ, List, length, subs
 use Rattle.std.proofs.lemmas.Bool.Decides.{nat_tests}
 use Rattle.servient_outside.specs.Told.{Continues}
 use Rattle.servient_outside.proofs.ToldLaws.{continues_same}
-use Rattle.servient_cli.proofs.StageLaws.{nothing_if_empty}
+use Rattle.command_stages.proofs.StageLaws.{nothing_if_empty}
 use Rattle.servient_cli.proofs.main_call.report.Goals as goal
 
 pub returns-then-is_empty-clause-reported : goal.returns-then-is_empty-clause-reported

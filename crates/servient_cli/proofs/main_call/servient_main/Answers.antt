@@ -1,9 +1,9 @@
 use Rattle.std.proofs.Common.{ap, sym, ◌∙◌}
 use Rattle.thing_site.specs.Exposing.{kinds_of}
 use Rattle.servient_cli.specs.Command.{is_discovering}
-use Rattle.servient_core.specs.Trace.{outside}
-use Rattle.servient_cli.specs.Stages.{around}
-use Rattle.servient_cli.specs.Ending.{text_of}
+use Rattle.servient_trace.specs.Trace.{outside}
+use Rattle.command_stages.specs.Stages.{around}
+use Rattle.command_stages.specs.Ending.{text_of}
 use Rattle.servient_cli.proofs.CommandStages.{asking_uses_network, built_ends, command_ends, ends_well, other_discovers_not, other_is_not, refusal_ends}
 use Rattle.servient_cli.proofs.UsageStages.{discovery_ends, output_failed, refusal_failed, usage_is_exact}
 use Rattle.servient_cli.proofs.StormStages.{never_spent}

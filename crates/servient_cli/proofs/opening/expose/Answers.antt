@@ -1,13 +1,13 @@
 use Rattle.std.proofs.Common.{refl, ap, subst}
 use Rattle.servient_core.specs.Machine.{Site}
-use Rattle.servient_cli.specs.Stages.{goes_on}
+use Rattle.command_stages.specs.Stages.{goes_on}
 use Rattle.thing_site.specs.Site.{expose_faults}
 use Rattle.thing_site.specs.Exposing.{kinds_of}
 use Rattle.servient_core.specs.declared.servient.OpenFault.{OpenFault}
 use Rattle.servient_core.specs.Serving.{IsOpenFault}
 use Rattle.servient_cli.specs.Opening.{Exposes, is_exposed, expose_memory}
-use Rattle.servient_cli.proofs.StageLaws.{ends_memory, goes_quietly}
-use Rattle.servient_cli.proofs.ModelStages.{misfit_ends}
+use Rattle.command_stages.proofs.StageLaws.{ends_memory, goes_quietly}
+use Rattle.servient_cli.proofs.OpeningStages.{misfit_ends}
 use Rattle.servient_cli.proofs.opening.expose.Goals as goal
 
 pub returns-in-Err-Expose-clause-stage : goal.returns-in-Err-Expose-clause-stage

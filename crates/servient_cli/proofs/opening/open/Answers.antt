@@ -1,8 +1,8 @@
 use Rattle.std.proofs.lemmas.Result.{err_from_is_err_and}
 use Rattle.thing_site.specs.Exposing.{kinds_of}
-use Rattle.servient_cli.specs.Deriving.{Derives}
+use Rattle.command_stages.specs.Deriving.{Derives}
 use Rattle.servient_cli.specs.Opening.{Exposes, site_in}
-use Rattle.servient_cli.proofs.StageLaws.{then_performs, error_performs}
+use Rattle.command_stages.proofs.StageLaws.{then_performs, error_performs}
 use Rattle.servient_cli.proofs.opening.open.Goals as goal
 
 pub returns-in_err-things-clause-stage : goal.returns-in_err-things-clause-stage

@@ -4,14 +4,14 @@ use Rattle.thing_handler.specs.Turns.{turns_in}
 use Rattle.servient_outside.specs.declared.net.EventWithBytes.{EventWithBytes}
 use Rattle.servient_outside.specs.NetMemory.{net_seen}
 use Rattle.servient_core.specs.declared.serving.Served.TheVariants as served
-use Rattle.servient_core.specs.Trace.{happened_in, calls_in, outside}
+use Rattle.servient_trace.specs.Trace.{happened_in, calls_in, outside}
 use Rattle.servient_core.specs.Machine.{start, Run}
 use Rattle.servient_core.proofs.PartLaws.{stands_for_some}
 use Rattle.servient_script.specs.Merging.{HaveKept, turns_after}
-use Rattle.servient_cli.specs.Lines.{memory_line, spent_line}
-use Rattle.servient_cli.specs.Stages.{around}
+use Rattle.command_stages.specs.Lines.{memory_line, spent_line}
+use Rattle.command_stages.specs.Stages.{around}
 use Rattle.servient_cli.specs.Replaying.{RunsScript, is_whole, is_spent, run_memory, run_events, print_of_run}
-use Rattle.servient_cli.proofs.StageLaws.{ends_memory, calls_end, calls_end_twice}
+use Rattle.command_stages.proofs.StageLaws.{ends_memory, calls_end, calls_end_twice}
 use Rattle.servient_cli.proofs.RunLaws.{run_of, run_none, run_first, still_known, all_told, stopped_took, spent_took, never_failed}
 use Rattle.servient_script.proofs.MergeLaws.{merged_since, have_kept}
 use Rattle.servient_cli.proofs.replay.run_network.Goals as goal

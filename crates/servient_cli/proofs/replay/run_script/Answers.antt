@@ -1,10 +1,10 @@
 use Rattle.std.proofs.Common.{[], refl}
 use Rattle.std.proofs.lemmas.Result.{err_from_is_err_and}
-use Rattle.servient_core.specs.Trace.{outside}
+use Rattle.servient_trace.specs.Trace.{outside}
 use Rattle.servient_core.specs.Machine.{start}
-use Rattle.servient_cli.specs.Stages.{around}
+use Rattle.command_stages.specs.Stages.{around}
 use Rattle.servient_cli.specs.Replaying.{RunsScript, run_memory, run_events}
-use Rattle.servient_cli.proofs.StageLaws.{ends_memory}
+use Rattle.command_stages.proofs.StageLaws.{ends_memory}
 use Rattle.servient_cli.proofs.RunLaws.{run_none}
 use Rattle.servient_cli.proofs.replay.run_script.Goals as goal
 

@@ -1,11 +1,11 @@
 use Rattle.std.proofs.Common.{[], ℕ, ◌+◌, ap, refl}
 use Rattle.std.proofs.lemmas.Result.{err_from_is_err_and}
-use Rattle.servient_core.specs.Trace.{outside}
+use Rattle.servient_trace.specs.Trace.{outside}
 use Rattle.servient_core.specs.Machine.{start}
-use Rattle.servient_cli.specs.Stages.{around}
+use Rattle.command_stages.specs.Stages.{around}
 use Rattle.servient_cli.specs.declared.storming.Load.{Load}
 use Rattle.servient_cli.specs.Storming.{RunsStorm, storm_memory, storm_run}
-use Rattle.servient_cli.proofs.StageLaws.{ends_memory}
+use Rattle.command_stages.proofs.StageLaws.{ends_memory}
 use Rattle.servient_cli.proofs.RunLaws.{run_none}
 use Rattle.servient_cli.proofs.StormStages.{has_storm}
 use Rattle.servient_cli.proofs.storming.run_storm.Goals as goal

@@ -4,14 +4,14 @@ use Rattle.thing_handler.specs.Turns.{turns_in}
 use Rattle.servient_outside.specs.declared.net.EventWithBytes.{EventWithBytes}
 use Rattle.servient_outside.specs.NetMemory.{net_seen}
 use Rattle.servient_core.specs.declared.serving.Served.TheVariants as served
-use Rattle.servient_core.specs.Trace.{happened_in, calls_in, outside}
+use Rattle.servient_trace.specs.Trace.{happened_in, calls_in, outside}
 use Rattle.servient_core.specs.Machine.{start, Run}
 use Rattle.servient_core.proofs.PartLaws.{stands_for_some}
 use Rattle.storm_events.specs.Storm.{events_of}
-use Rattle.servient_cli.specs.Lines.{memory_line}
+use Rattle.command_stages.specs.Lines.{memory_line}
 use Rattle.servient_cli.specs.Counting.{counts_in, storm_line}
 use Rattle.servient_cli.specs.Storming.{RunsStorm, is_counted, storm_memory}
-use Rattle.servient_cli.proofs.StageLaws.{calls_end}
+use Rattle.command_stages.proofs.StageLaws.{calls_end}
 use Rattle.servient_cli.proofs.RunLaws.{run_of, run_first, still_known, all_told, stopped_took, never_failed}
 use Rattle.servient_cli.proofs.CountLaws.{turns_grew}
 use Rattle.servient_cli.proofs.StormStages.{run_is, counts_are, never_over}

@@ -1,10 +1,10 @@
 use Rattle.std.proofs.lemmas.Result.{err_from_is_err_and}
 use Rattle.thing_site.specs.Exposing.{kinds_of}
-use Rattle.servient_core.specs.Trace.{outside}
-use Rattle.servient_cli.specs.Stages.{around}
-use Rattle.servient_cli.specs.Replaying.{TakesBuiltIn}
+use Rattle.servient_trace.specs.Trace.{outside}
+use Rattle.command_stages.specs.Stages.{around}
+use Rattle.command_stages.specs.Inputs.{TakesBuiltIn}
 use Rattle.servient_cli.specs.Storming.{StormsOn, with_few_exchanges}
-use Rattle.servient_cli.proofs.StageLaws.{then_ends, error_ends}
+use Rattle.command_stages.proofs.StageLaws.{then_ends, error_ends}
 use Rattle.servient_cli.proofs.storming.storm.Goals as goal
 
 pub returns-in_err-planned : goal.returns-in_err-planned

@@ -1,12 +1,12 @@
 use Rattle.std.specs.Prelude.{None}
 use Rattle.std.proofs.lemmas.Result.{err_from_is_err_and}
 use Rattle.thing_site.specs.Exposing.{kinds_of}
-use Rattle.servient_core.specs.Trace.{outside}
-use Rattle.servient_cli.specs.Stages.{around}
+use Rattle.servient_trace.specs.Trace.{outside}
+use Rattle.command_stages.specs.Stages.{around}
 use Rattle.servient_cli.specs.Opening.{Opens}
-use Rattle.servient_cli.specs.Replaying.{plan_name}
+use Rattle.command_stages.specs.Inputs.{plan_name}
 use Rattle.servient_cli.specs.Storming.{RunsStorm}
-use Rattle.servient_cli.proofs.StageLaws.{then_ends, error_ends}
+use Rattle.command_stages.proofs.StageLaws.{then_ends, error_ends}
 use Rattle.servient_cli.proofs.storming.storm_on.Goals as goal
 
 pub returns-in_err-servient : goal.returns-in_err-servient

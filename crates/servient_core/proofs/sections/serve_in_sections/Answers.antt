@@ -1,6 +1,6 @@
 use Rattle.std.proofs.Common.{◌+◌, ℕ, ap, arith}
 use Rattle.servient_outside.specs.Network.{in_buffer}
-use Rattle.servient_core.specs.Trace.{outside}
+use Rattle.servient_trace.specs.Trace.{outside}
 use Rattle.servient_core.proofs.ServingLaws.{same_event}
 use Rattle.servient_core.proofs.SectionsServed.{endures_none, endures_checked, endures_more, checked_early, sections_stopped, sections_failed}
 use Rattle.servient_core.proofs.sections.serve_in_sections.Goals as goal

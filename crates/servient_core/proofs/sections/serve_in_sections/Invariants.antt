@@ -1,4 +1,4 @@
-use Rattle.servient_core.specs.Trace.{outside}
+use Rattle.servient_trace.specs.Trace.{outside}
 use Rattle.servient_core.proofs.SectionsServed.{Endures}
 use Rattle.servient_core.proofs.sections.serve_in_sections.Given as goal
 

@@ -1,4 +1,4 @@
-use Rattle.servient_core.specs.Trace.{outside}
+use Rattle.servient_trace.specs.Trace.{outside}
 use Rattle.servient_core.proofs.ServingLaws.{Progress}
 use Rattle.servient_core.proofs.serving.serve.Given as goal
 

@@ -2,7 +2,7 @@ use Rattle.std.proofs.Common.{refl, sym, subst}
 use Rattle.servient_base.specs.Moves.{Refines}
 use Rattle.http_bind.specs.Streams.{Opened, Ended}
 use Rattle.servient_outside.specs.declared.net.What.{What}
-use Rattle.servient_core.specs.Trace.{Shows, outside}
+use Rattle.servient_trace.specs.Trace.{Shows, outside}
 use Rattle.servient_core.specs.Machine.{Follows}
 use Rattle.servient_core.specs.Serving.{StandsFor}
 use Rattle.servient_core.proofs.PartLaws.{refines_http, refines_nothing, room_after}

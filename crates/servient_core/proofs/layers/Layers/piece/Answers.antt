@@ -1,5 +1,5 @@
 use Rattle.http_bind.specs.Streams.{Lengthened}
-use Rattle.servient_core.specs.Trace.{outside}
+use Rattle.servient_trace.specs.Trace.{outside}
 use Rattle.servient_core.specs.Machine.{OnHttp, TakesEveryMessage}
 use Rattle.servient_core.proofs.PartLaws.{then_moves, refines_http, others_keep}
 use Rattle.servient_core.proofs.LoopLaws.{others_then, room_of_all}

@@ -1,7 +1,7 @@
 use Rattle.std.proofs.Common.{◌<◌, Bool, length, sym, subst}
 use Rattle.thing_site.specs.Site.{Site}
 use Rattle.thing_core.specs.Rounds.{events_left}
-use Rattle.servient_core.specs.Trace.{outside}
+use Rattle.servient_trace.specs.Trace.{outside}
 use Rattle.servient_core.specs.Keeping.{PollsOne}
 use Rattle.servient_core.proofs.DeliverLaws.{polling_begins, polling_more, polling_smaller, polling_ends}
 use Rattle.servient_core.proofs.layers.Layers.poll_all.Goals as goal

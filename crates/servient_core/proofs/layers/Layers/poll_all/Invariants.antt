@@ -1,6 +1,6 @@
 use Rattle.std.proofs.Common.{length}
 use Rattle.thing_core.specs.Rounds.{events_left}
-use Rattle.servient_core.specs.Trace.{outside}
+use Rattle.servient_trace.specs.Trace.{outside}
 use Rattle.servient_core.proofs.DeliverLaws.{Polling}
 use Rattle.servient_core.proofs.layers.Layers.poll_all.Given as goal
 

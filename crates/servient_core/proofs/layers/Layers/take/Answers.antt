@@ -4,7 +4,7 @@ use Rattle.thing_ops.specs.Requests.{request_seen}
 use Rattle.thing_site.specs.Site.{Site}
 use Rattle.thing_site.specs.Fits.{Fits}
 use Rattle.coap_exchange.specs.Table.{Table}
-use Rattle.servient_core.specs.Trace.{outside, Shows}
+use Rattle.servient_trace.specs.Trace.{outside, Shows}
 use Rattle.servient_core.specs.Machine.{Delivers}
 use Rattle.servient_core.specs.Serving.{StandsFor}
 use Rattle.servient_core.proofs.PartLaws.{others_keep, refines_by_http}

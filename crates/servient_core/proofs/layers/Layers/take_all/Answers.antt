@@ -1,6 +1,6 @@
 use Rattle.std.proofs.Common.{Bool, subst, ◌∙◌}
 use Rattle.servient_base.specs.Moves.{Refines}
-use Rattle.servient_core.specs.Trace.{Shows, outside}
+use Rattle.servient_trace.specs.Trace.{Shows, outside}
 use Rattle.servient_core.specs.Serving.{StandsFor}
 use Rattle.servient_core.specs.Connections.{TakesOne}
 use Rattle.servient_core.proofs.LoopLaws.{others_then}

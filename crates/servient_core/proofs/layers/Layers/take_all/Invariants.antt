@@ -1,5 +1,5 @@
 use Rattle.http_bind.specs.Slots.{left_at}
-use Rattle.servient_core.specs.Trace.{outside}
+use Rattle.servient_trace.specs.Trace.{outside}
 use Rattle.servient_core.proofs.ConnectionLaws.{Taking}
 use Rattle.servient_core.proofs.layers.Layers.take_all.Given as goal
 

@@ -4,7 +4,7 @@ use Rattle.thing_site.specs.Fits.{Fits}
 use Rattle.thing_core.specs.Kept.{Kept}
 use Rattle.thing_site.specs.Site.{Site}
 use Rattle.servient_outside.specs.declared.net.EventWithBytes.{EventWithBytes}
-use Rattle.servient_core.specs.Trace.{Shows, outside}
+use Rattle.servient_trace.specs.Trace.{Shows, outside}
 use Rattle.servient_core.specs.Machine.{Follows, Step}
 use Rattle.servient_core.specs.Serving.{StandsFor}
 use Rattle.servient_core.specs.declared.layers.Layers.{Layers}

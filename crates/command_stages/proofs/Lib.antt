@@ -1,0 +1,3 @@
+pub mod StageLaws
+mod ModelStages
+pub mod FaultlessReading

@@ -1,0 +1,10 @@
+pub mod Lines
+pub mod FaultLines
+pub mod Stages
+pub mod Reading
+pub mod Checking
+pub mod Deriving
+pub mod Ending
+pub mod Words
+pub mod Describing
+pub mod Inputs

@@ -1,7 +1,6 @@
 //! One exchange as the code keeps it, and its lifetime.
 
 ghost use Rattle.std.specs.Prelude.{◌≡◌};
-ghost use Rattle.coap_exchange.specs.Admission.{lifetime};
 ghost use Rattle.coap_exchange.specs.Slots.{age_list};
 
 use coap_msg::{EXCHANGE_LIFETIME, Endpoint, NON_LIFETIME, RequestType};
@@ -28,8 +27,13 @@ impl Entry {
     pub fn lives(&self, now: u64) -> bool
         ensures { result ≡ lives now (arrival_of self.now) }
     {
+        // EXCHANGE_LIFETIME and NON_LIFETIME of RFC 7252, section 4.8.2.
+        let lifetime = match self.kind {
+            RequestType::Confirmable => EXCHANGE_LIFETIME,
+            RequestType::NonConfirmable => NON_LIFETIME,
+        };
         // Saturating, as the subtraction of the definition is.
-        now.saturating_sub(self.moment) < lifetime_of(self.kind)
+        now.saturating_sub(self.moment) < lifetime
     }
 
     /// Whether it is the exchange of this endpoint and message ID.
@@ -37,17 +41,6 @@ impl Entry {
         ensures { result ≡ (from.host == self.now.from.host && from.port == self.now.from.port && id == self.now.id) }
     {
         from.host == self.from.host && from.port == self.from.port && id == self.id
-    }
-}
-
-/// The time for which the message ID of a request may be in use, in milliseconds: EXCHANGE_LIFETIME and NON_LIFETIME
-/// (RFC 7252, section 4.8.2).
-pub fn lifetime_of(kind: RequestType) -> u64
-    ensures { result ≡ lifetime kind }
-{
-    match kind {
-        RequestType::Confirmable => EXCHANGE_LIFETIME,
-        RequestType::NonConfirmable => NON_LIFETIME,
     }
 }
 

@@ -30,24 +30,6 @@ pub fn decode(bytes: &[u8]) -> Result<Message<'_>, MsgFault>
     let Some((header, rest)) = take_header(bytes) else {
         return Err(MsgFault::Short);
     };
-    check_header(&header, rest)?;
-    let (token, body) = rest.split_at(header.token_length as usize);
-    let (options, payload) = split_body(body)?;
-    Ok(Message {
-        kind: header.kind,
-        code: header.code,
-        id: header.id,
-        token,
-        options,
-        payload,
-    })
-}
-
-/// Judges a header and the number of bytes after it, in the order of `MsgFault`, since the first fault is given.
-fn check_header(header: &Header, rest: &[u8]) -> Result<(), MsgFault>
-    ensures ok { OnOk result (MayGoOn header.now rest.now) }
-    ensures fault { IfErr result (λ e. HasHeaderFault e header.now rest.now) }
-{
     let token_length = header.token_length as usize;
     if header.version != 1 {
         return Err(MsgFault::Version);
@@ -64,7 +46,16 @@ fn check_header(header: &Header, rest: &[u8]) -> Result<(), MsgFault>
     ) {
         return Err(MsgFault::Class);
     }
-    Ok(())
+    let (token, body) = rest.split_at(token_length);
+    let (options, payload) = split_body(body)?;
+    Ok(Message {
+        kind: header.kind,
+        code: header.code,
+        id: header.id,
+        token,
+        options,
+        payload,
+    })
 }
 
 /// The options and the payload in the bytes after the token.

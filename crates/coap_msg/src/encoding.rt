@@ -47,52 +47,26 @@ pub fn encode(message: &Plain<'_>, out: &mut [u8]) -> Result<usize, NoRoom>
     ensures unchanged { OnErr result (out.new ≡ out.old) }
     ensures no_room { OnErr result (length out.old < length (spelling (plain_message message.now))) }
 {
-    // The whole length is judged before a byte is written, so that a refusal leaves the room as it was.
-    if (out.len() as u128) < spelled_length(message) {
-        return Err(NoRoom);
-    }
-    let at = put_bytes(out, 0, &header_bytes(message));
-    let at = put_bytes(out, at, message.token);
-    let at = put_bytes(out, at, message.options.as_bytes());
-    Ok(put_payload(out, at, message.payload))
-}
-
-/// The number of bytes of a message, in `u128`, so that no sum of lengths overflows.
-fn spelled_length(message: &Plain<'_>) -> u128
-    ensures { result ≡ length (spelling (plain_message message.now)) }
-{
-    HEADER_LENGTH
+    let marker: &[u8] = if message.payload.is_empty() {
+        &[]
+    } else {
+        &[PAYLOAD_MARKER]
+    };
+    // In `u128`, so that no sum of lengths overflows.
+    let needed = HEADER_LENGTH
         + message.token.len() as u128
         + message.options.as_bytes().len() as u128
-        + if message.payload.is_empty() {
-            0
-        } else {
-            1 + message.payload.len() as u128
-        }
-}
-
-/// The four bytes of a header.
-fn header_bytes(message: &Plain<'_>) -> [u8; 4]
-    requires { length message.now.token.now ≤ LONGEST_TOKEN }
-    ensures ok { result ≡ header (plain_message message.now) }
-    ensures code { message.now.code < 2 ^ 8 }
-    ensures id { message.now.id < 2 ^ 16 }
-{
+        + marker.len() as u128
+        + message.payload.len() as u128;
+    // The whole length is judged before a byte is written, so that a refusal leaves the room as it was.
+    if (out.len() as u128) < needed {
+        return Err(NoRoom);
+    }
     let first = 64 * 1 + 16 * message.kind.bits() + message.token.len() as u8;
     let [high, low] = message.id.to_be_bytes();
-    [first, message.code, high, low]
-}
-
-/// Writes the payload marker and a payload, or nothing for an empty one; returns the place after them.
-fn put_payload(out: &mut [u8], at: usize, payload: &[u8]) -> usize
-    requires { at + length (payload_spelling payload.now) ≤ length out.old }
-    ensures end { result ≡ at + length (payload_spelling payload.now) }
-    ensures bytes { take result out.new ≡ take at out.old ++ payload_spelling payload.now }
-    ensures after { drop result out.new ≡ drop result out.old }
-{
-    if payload.is_empty() {
-        return at;
-    }
-    let at = put_bytes(out, at, &[PAYLOAD_MARKER]);
-    put_bytes(out, at, payload)
+    let at = put_bytes(out, 0, &[first, message.code, high, low]);
+    let at = put_bytes(out, at, message.token);
+    let at = put_bytes(out, at, message.options.as_bytes());
+    let at = put_bytes(out, at, marker);
+    Ok(put_bytes(out, at, message.payload))
 }

@@ -1,7 +1,7 @@
 //! The options that are known, and the faults of others.
 
 ghost use Rattle.std.specs.Prelude.{◌≡◌};
-ghost use Rattle.coap_opts.specs.Table.{stands_again, may_stand};
+ghost use Rattle.coap_opts.specs.Table.{may_stand};
 ghost use Rattle.coap_opts.specs.Reading.{fault_of};
 
 use crate::AskFault;
@@ -115,16 +115,6 @@ const KNOWN: [Known; 12] = [
     BLOCK1,
 ];
 
-/// Whether the option before this one has its number.
-fn is_again(before: Option<u16>, number: u16) -> bool
-    ensures { result ≡ stands_again before number }
-{
-    match before {
-        Some(other) => other == number,
-        None => false,
-    }
-}
-
 /// Whether an option is one that the table knows, after one of this number.
 fn is_right(before: Option<u16>, number: u16, value: &[u8]) -> bool
     ensures { result ≡ may_stand before (number, value.now) }
@@ -132,7 +122,7 @@ fn is_right(before: Option<u16>, number: u16, value: &[u8]) -> bool
     for row in &KNOWN {
         if row.number == number {
             let fits = row.shortest <= value.len() && value.len() <= row.longest;
-            return fits && (row.repeats || !is_again(before, number));
+            return fits && (row.repeats || before != Some(number));
         }
     }
     false

@@ -4,15 +4,17 @@ use Rattle.std.specs.Prelude.{Option, Some, None, Result, Ok, Err, not, nat_le, 
 use Rattle.std.specs.List.{starts_with}
 use Rattle.std.specs.Str.{str_eq_ignore_ascii_case}
 use Rattle.std.specs.Str.Parse.{digits_value}
-use Rattle.http_wire.specs.declared.framing.Framing.{Framing}
-use Rattle.http_wire.specs.declared.framing.Framing.TheVariants as framing
-use Rattle.http_wire.specs.declared.chunks.Chunk.{Chunk}
-use Rattle.http_wire.specs.declared.chunks.Chunk.TheVariants as chunk
+use Rattle.http_fields.specs.declared.framing.Framing.{Framing}
+use Rattle.http_fields.specs.declared.framing.Framing.TheVariants as framing
+use Rattle.http_fields.specs.declared.chunks.Chunk.{Chunk}
+use Rattle.http_fields.specs.declared.chunks.Chunk.TheVariants as chunk
 use Rattle.httparse.specs.Grammar.{RequestHead}
-use Rattle.http_wire.specs.Heads.{skipped, empty_line, line_end, length_through, is_newer}
-use Rattle.http_wire.specs.Fields.{Standing, absent, once, often, Said, said_by, lines_of}
-use Rattle.http_wire.specs.Judging.{FramedHead, with_framing, IsJudged, too_many_lines, bare_line_end, no_head, one_head, expects, longest_body, is_length, framing_by, has_right_counts, fields_judged}
-use Rattle.http_wire.specs.Chunks.{BodyFront, unfinished, faulty, whole, chunks, chunk_at, lined_chunk, sized_chunk, chunk_size, trailers_to, follow, with_chunk}
+use Rattle.http_wire.specs.Heads.{skipped, is_newer, lines_of}
+use Rattle.http_fields.specs.Marks.{empty_line, line_end, length_through}
+use Rattle.http_fields.specs.Fields.{Standing, absent, once, often, Said, said_by}
+use Rattle.http_wire.specs.Judging.{FramedHead, with_framing, IsJudged, too_many_lines, bare_line_end, no_head, one_head, expects, longest_body, has_right_counts, fields_judged}
+use Rattle.http_fields.specs.Framings.{is_length, framing_by}
+use Rattle.http_fields.specs.Chunks.{BodyFront, unfinished, faulty, whole, chunks, chunk_at, lined_chunk, sized_chunk, chunk_size, trailers_to, follow, with_chunk}
 use Rattle.http_wire.specs.Stream.{Front, short, fault, IsFront, IsFrontAfter, no_end, one_end, with_body, with_head, longest_head, longest_coded, body_front, within_longest}
 use Rattle.http_bind.specs.Replying.{fault_word}
 

@@ -5,7 +5,7 @@ use Rattle.thing_ops.specs.Requests.{RequestSeen}
 use Rattle.httparse.specs.Grammar.{RequestHead}
 use Rattle.http_wire.specs.Heads.{skipped}
 use Rattle.http_wire.specs.Judging.{FramedHead, expects}
-use Rattle.http_wire.specs.Chunks.{BodyFront, unfinished, faulty, whole}
+use Rattle.http_fields.specs.Chunks.{BodyFront, unfinished, faulty, whole}
 use Rattle.http_wire.specs.Stream.{plain_head_of, Front, short, message, fault, IsFront, IsFrontAfter, no_end, one_end, with_body, with_head, longest_head, body_front}
 use Rattle.http_bind.specs.Streams.{asks, wants_continue, is_faulty, to_take, bytes_used, asks_to_close}
 use Rattle.http_bind.proofs.Skipping.{skipped_twice}

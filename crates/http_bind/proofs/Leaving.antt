@@ -4,8 +4,9 @@ use Rattle.std.specs.Prelude.{Option, Some, None, Result, Ok, Err, is_some, IsSo
 use Rattle.std.specs.List.{starts_with}
 use Rattle.std.proofs.lemmas.List.{length-drop}
 use Rattle.httparse.specs.Grammar.{RequestHead}
-use Rattle.http_wire.specs.Heads.{skipped, length_through, empty_line}
-use Rattle.http_wire.specs.Chunks.{BodyFront, unfinished, faulty, whole}
+use Rattle.http_wire.specs.Heads.{skipped}
+use Rattle.http_fields.specs.Marks.{length_through, empty_line}
+use Rattle.http_fields.specs.Chunks.{BodyFront, unfinished, faulty, whole}
 use Rattle.http_wire.specs.Stream.{Front, short, message, fault, IsFrontAfter, no_end, one_end, with_body, with_head, without_head, body_front, longest_head}
 use Rattle.http_wire.specs.Judging.{FramedHead, expects}
 use Rattle.http_wire.specs.Reading.{asked}

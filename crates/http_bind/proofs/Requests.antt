@@ -5,16 +5,17 @@ use Rattle.std.specs.List.{starts_with}
 use Rattle.std.proofs.lemmas.Bool.{leb-true}
 use Rattle.std.proofs.lemmas.List.{drop-append-le, length-drop, length-take, drop-drop}
 use Rattle.thing_ops.specs.Requests.{RequestSeen}
-use Rattle.http_wire.specs.declared.framing.Framing.{Framing}
-use Rattle.http_wire.specs.declared.framing.Framing.TheVariants as framing
-use Rattle.http_wire.specs.declared.chunks.Chunk.{Chunk}
-use Rattle.http_wire.specs.declared.chunks.Chunk.TheVariants as chunk
+use Rattle.http_fields.specs.declared.framing.Framing.{Framing}
+use Rattle.http_fields.specs.declared.framing.Framing.TheVariants as framing
+use Rattle.http_fields.specs.declared.chunks.Chunk.{Chunk}
+use Rattle.http_fields.specs.declared.chunks.Chunk.TheVariants as chunk
 use Rattle.httparse.specs.Grammar.{RequestHead}
-use Rattle.http_wire.specs.Heads.{skipped, empty_line, line_end, length_through}
+use Rattle.http_wire.specs.Heads.{skipped}
+use Rattle.http_fields.specs.Marks.{empty_line, line_end, length_through}
 use Rattle.http_wire.specs.Judging.{FramedHead, expects, longest_body}
-use Rattle.http_wire.specs.Chunks.{BodyFront, unfinished, faulty, whole, chunks, chunk_at, lined_chunk, sized_chunk, chunk_size, trailers_to, data_before, follow, with_chunk}
+use Rattle.http_fields.specs.Chunks.{BodyFront, unfinished, faulty, whole, chunks, chunk_at, lined_chunk, sized_chunk, chunk_size, trailers_to, data_before, follow, with_chunk}
 use Rattle.http_wire.specs.Stream.{Front, short, message, fault, IsFront, IsFrontAfter, no_end, one_end, IsSettled, with_body, with_head, longest_head, longest_coded, body_front, within_longest}
-use Rattle.http_wire.proofs.MoreBytes.{is_through}
+use Rattle.http_fields.proofs.FoundMarks.{is_through}
 use Rattle.http_wire.proofs.MoreOfAStream.{front_stays}
 use Rattle.http_wire.proofs.OneFront.{at_most_one_front}
 use Rattle.http_bind.specs.declared.owed.Owed.{Owed}

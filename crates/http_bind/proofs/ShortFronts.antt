@@ -1,19 +1,20 @@
 -- Bounds on what is at the front of a stream.
 use Rattle.std.proofs.Common.{◌≡◌, ℕ, ◌+◌, ◌<◌, ◌≤◌, Bool, true, false, List, length, take, drop, refl, sym, subst, arith, cond, length-drop, length-take}
-use Rattle.std.specs.Prelude.{Some, Result, Ok, Err, not, nat_le, nat_lt}
+use Rattle.std.specs.Prelude.{Some, Result, Ok, Err, not, nat_le, nat_lt, codes}
 use Rattle.std.proofs.lemmas.Bool.{leb-false, ltb-false}
-use Rattle.http_wire.specs.declared.framing.Framing.{Framing}
-use Rattle.http_wire.specs.declared.framing.Framing.TheVariants as framing
+use Rattle.http_fields.specs.declared.framing.Framing.{Framing}
+use Rattle.http_fields.specs.declared.framing.Framing.TheVariants as framing
 use Rattle.std.specs.Str.{str_eq_ignore_ascii_case}
-use Rattle.std.specs.Prelude.{codes}
 use Rattle.std.specs.Str.Parse.{digits_value}
 use Rattle.httparse.specs.Grammar.{RequestHead}
-use Rattle.http_wire.specs.Heads.{empty_line, is_newer}
-use Rattle.http_wire.specs.Fields.{Standing, absent, once, often, said_by, lines_of}
-use Rattle.http_wire.specs.Judging.{FramedHead, with_framing, IsJudged, too_many_lines, bare_line_end, no_head, one_head, expects, IsBounded, longest_body, is_length, framing_by, has_right_counts, fields_judged}
-use Rattle.http_wire.specs.Chunks.{BodyFront, unfinished, faulty, whole, chunks}
+use Rattle.http_wire.specs.Heads.{is_newer, lines_of}
+use Rattle.http_fields.specs.Marks.{empty_line}
+use Rattle.http_fields.specs.Fields.{Standing, absent, once, often, said_by}
+use Rattle.http_wire.specs.Judging.{FramedHead, with_framing, IsJudged, too_many_lines, bare_line_end, no_head, one_head, expects, longest_body, has_right_counts, fields_judged}
+use Rattle.http_fields.specs.Framings.{IsBounded, is_length, framing_by}
+use Rattle.http_fields.specs.Chunks.{BodyFront, unfinished, faulty, whole, chunks}
 use Rattle.http_wire.specs.Stream.{short, fault, IsFrontAfter, no_end, one_end, with_body, with_head, longest_head, longest_coded, head_length, body_front, within_longest}
-use Rattle.http_wire.proofs.MoreBytes.{is_through}
+use Rattle.http_fields.proofs.FoundMarks.{is_through}
 
 -- ---- how a head is judged
 

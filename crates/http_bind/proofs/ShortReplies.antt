@@ -4,9 +4,8 @@ use Rattle.std.specs.Prelude.{Option, Some, None, option_map, IfSome, ◌==◌}
 use Rattle.std.specs.Fmt.{decimal}
 use Rattle.std.proofs.lemmas.Fmt.{length-decimal-le}
 use Rattle.std.proofs.lemmas.List.{append-nil}
-use Rattle.http_wire.specs.Conditions.{entity_tag}
-use Rattle.http_wire.specs.Heads.{line_end}
-use Rattle.http_wire.specs.Writing.{PlainReply, phrase_of, phrase_text, field_line, written_length, closing, field_lines, status_line, head_text, http_reply}
+use Rattle.http_replies.specs.Writing.{entity_tag, PlainReply, phrase_of, phrase_text, field_line, written_length, closing, field_lines, status_line, head_text, http_reply}
+use Rattle.http_fields.specs.Marks.{line_end}
 use Rattle.http_bind.specs.Written.{IsShortReply}
 
 phrase_by : (t : Bool) (x : List ℕ) (r : Option (List ℕ)) → length x ≤ 64 → length (phrase_text r) ≤ 64 → length (phrase_text (cond t (Some x) r)) ≤ 64

@@ -6,7 +6,7 @@ use Rattle.thing_ops.specs.declared.verb.Verb.{Verb}
 use Rattle.thing_ops.specs.declared.verb.Verb.TheVariants as verb
 use Rattle.thing_ops.specs.Outcomes.{Payload, text, word, nothing, answer_of, payload_of, version_of}
 use Rattle.thing_ops.specs.Verbs.{verbs_in, names_of}
-use Rattle.http_wire.specs.Writing.{PlainReply, http_reply}
+use Rattle.http_replies.specs.Writing.{PlainReply, http_reply}
 use Rattle.http_bind.specs.Places.{path_text}
 
 -- The most bytes of the head of a reply.

@@ -1,7 +1,7 @@
 -- Heads of replies as they are written into a room.
 use Rattle.std.specs.Prelude.{◌≡◌, ◌<◌, ◌≤◌, ◌⊎◌, ◌^◌, ℕ, Bool, List, length, take, codes, Option, Some, None, IfSome}
 use Rattle.thing_ops.specs.declared.outcome.Outcome.{Outcome}
-use Rattle.http_wire.specs.Writing.{PlainReply, http_reply}
+use Rattle.http_replies.specs.Writing.{PlainReply, http_reply}
 use Rattle.http_bind.specs.Replying.{head_of, location_of, longest_reply_head}
 
 -- The head with its place was written to the beginning; or it is too long, or there is no place.

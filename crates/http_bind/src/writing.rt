@@ -2,8 +2,8 @@
 
 ghost use Rattle.std.specs.Prelude.{◌≡◌, ◌≤◌, ◌⊎◌, ◌∷◌, [], codes, length, option_map, take, Some, None, IsSome};
 ghost use Rattle.thing_ops.specs.Outcomes.{payload_of, HasStatus};
-ghost use Rattle.http_wire.specs.Writing.{http_reply, phrase_of};
-ghost use Rattle.http_wire.specs.Replies.{plain_reply};
+ghost use Rattle.http_replies.specs.Writing.{http_reply, phrase_of};
+ghost use Rattle.http_replies.specs.Replies.{plain_reply};
 ghost use Rattle.http_bind.specs.Places.{path_text};
 ghost use Rattle.http_bind.specs.Replying.{media_type_of, location_of, allow_of, head_of, reply_head, longest_reply_head, fault_word as word_of_fault, fault_body, status_head};
 ghost use Rattle.http_bind.specs.Streams.{woken_by};

@@ -14,7 +14,8 @@ use Rattle.httparse.specs.Spans.{name_and_value}
 use Rattle.httparse.proofs.GrammarLemmas.{print_request-append}
 use Rattle.httparse.proofs.PieceLemmas.{print_field-append, colon_ends_token, space_ends_token}
 use Rattle.httparse.proofs.TrimLemmas.{AllPass-reverse}
-use Rattle.http_wire.specs.Fields.{Line, lines_of, asks_for_version, trimmed}
+use Rattle.http_wire.specs.Heads.{lines_of}
+use Rattle.http_fields.specs.Fields.{Line, asks_for_version, trimmed}
 use Rattle.http_wire.specs.Conditions.{asking_lines}
 use Rattle.http_wire.specs.Asked.{behind_start, line_in, lines_in}
 

@@ -6,15 +6,15 @@ use Rattle.std.proofs.lemmas.Bool.{le-ltb, ltb-false}
 use Rattle.std.proofs.lemmas.List.{length-drop, length-take-le, take-append-drop, drop-drop}
 use Rattle.std.proofs.Math.Seq.{take-append_seam, drop-append_seam, drop-append-add}
 use Rattle.httparse.specs.Grammar.{ChunkLine, print_chunk_line, chunk_size as line_size}
-use Rattle.http_wire.specs.declared.chunks.Chunk.{Chunk}
-use Rattle.http_wire.specs.declared.chunks.Chunk.TheVariants as chunk
-use Rattle.http_wire.specs.Heads.{line_end, empty_line, length_through}
+use Rattle.http_fields.specs.declared.chunks.Chunk.{Chunk}
+use Rattle.http_fields.specs.declared.chunks.Chunk.TheVariants as chunk
+use Rattle.http_fields.specs.Marks.{line_end, empty_line, length_through}
 use Rattle.http_wire.specs.Judging.{longest_body}
-use Rattle.http_wire.specs.Chunks.{whole, chunk_size, trailers_to, data_before, sized_chunk, lined_chunk, chunk_at, with_chunk, chunks}
+use Rattle.http_fields.specs.Chunks.{whole, chunk_size, trailers_to, data_before, sized_chunk, lined_chunk, chunk_at, with_chunk, chunks}
 use Rattle.http_wire.specs.Chunked.{IsShortLine, DataChunk, print_chunk, IsDataChunk, EachWholeIsSpelled, EachSpelledIsRead}
-use Rattle.http_wire.proofs.MoreBytes.{is_through, through_stays}
-use Rattle.http_wire.proofs.FewerBytes.{through_alone}
-use Rattle.http_wire.proofs.ChunkRows.{chunks_cut, chunks_wrong, chunks_last, chunks_more, whole_behind}
+use Rattle.http_fields.proofs.FoundMarks.{is_through, through_stays}
+use Rattle.http_fields.proofs.FewerBytes.{through_alone}
+use Rattle.http_fields.proofs.ChunkRows.{chunks_cut, chunks_wrong, chunks_last, chunks_more, whole_behind}
 use Rattle.http_wire.proofs.ChunkLines.{IsLineOf, line_of, read_line, begins}
 
 -- ---- what is spelled is read

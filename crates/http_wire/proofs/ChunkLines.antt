@@ -10,10 +10,10 @@ use Rattle.std.proofs.lemmas.List.Sums.{AllPass-from_list_all, list_all-from_All
 use Rattle.std.proofs.lemmas.List.Folds.{list_all-append}
 use Rattle.std.proofs.Math.Seq.{take-append_seam, drop-append_seam}
 use Rattle.httparse.specs.Grammar.{ChunkLine, print_chunk_line, print_extension, IsExtension, is_extension_byte, chunk_size as line_size}
-use Rattle.http_wire.specs.Heads.{line_end, length_through}
-use Rattle.http_wire.specs.Chunks.{size_of_digits, chunk_size}
+use Rattle.http_fields.specs.Marks.{line_end, length_through}
+use Rattle.http_fields.specs.Chunks.{size_of_digits, chunk_size}
 use Rattle.http_wire.specs.Chunked.{IsShortLine}
-use Rattle.http_wire.proofs.MoreBytes.{is_through, through_stays, through_first_stays}
+use Rattle.http_fields.proofs.FoundMarks.{is_through, through_stays, through_first_stays}
 
 -- ---- where a line ends
 

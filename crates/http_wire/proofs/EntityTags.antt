@@ -8,7 +8,8 @@ use Rattle.std.proofs.lemmas.Bool.{false≢true, leb-true, le-leb, eqb-true, eq-
 use Rattle.std.proofs.lemmas.List.{drop_more, take_more, take_all}
 use Rattle.std.proofs.lemmas.Slice.Eq.{bytes_eq-Decides}
 use Rattle.thing_ops.proofs.InvocationIds.{number_of_spelling, number_of_none, number_of_bytes}
-use Rattle.http_wire.specs.Conditions.{entity_tag, number_inside, version_of, TagsAreReadAgain}
+use Rattle.http_wire.specs.Conditions.{number_inside, version_of, TagsAreReadAgain}
+use Rattle.http_replies.specs.Writing.{entity_tag}
 use Rattle.http_wire.specs.Asked.{is_quoted, number_named}
 
 -- bytes in double quotes

@@ -6,17 +6,19 @@ use Rattle.std.proofs.lemmas.Bool.{or_parts}
 use Rattle.thing_ops.specs.declared.request.Accept.{Accept}
 use Rattle.thing_ops.specs.declared.request.Format.{Format}
 use Rattle.httparse.specs.Grammar.{RequestHead}
-use Rattle.http_wire.specs.declared.framing.Framing.{Framing}
-use Rattle.http_wire.specs.Heads.{is_newer, skipped, length_through, empty_line}
+use Rattle.http_fields.specs.declared.framing.Framing.{Framing}
+use Rattle.http_wire.specs.Heads.{is_newer, skipped, lines_of}
+use Rattle.http_fields.specs.Marks.{length_through, empty_line}
 use Rattle.http_wire.specs.Judging.{IsJudged, has_body, expects, fields_judged, with_framing, one_head}
 use Rattle.http_wire.specs.declared.heads.HeadParts.{HeadParts}
-use Rattle.http_wire.specs.Fields.{Line, lines_of, said_by, asks_for_version, format_of, accept_of}
+use Rattle.http_fields.specs.Fields.{Line, said_by, asks_for_version, format_of, accept_of}
 use Rattle.http_wire.specs.Conditions.{asking_lines}
 use Rattle.http_wire.specs.Asked.{asking_lines_in}
-use Rattle.http_wire.specs.Chunks.{BodyFront, unfinished, faulty, whole}
+use Rattle.http_fields.specs.Chunks.{BodyFront, unfinished, faulty, whole}
 use Rattle.http_wire.specs.Stream.{Front, short, fault, message, IsFront, IsFrontAfter, one_end, with_head, with_body, longest_head}
 use Rattle.http_wire.specs.Scanned.{IsHeadFront, TakesBetween}
-use Rattle.http_wire.specs.Found.{standing_of, said_in, AreHeadParts, IsReadAs}
+use Rattle.http_wire.specs.HeadSeen.{AreHeadParts, IsReadAs}
+use Rattle.http_fields.specs.Found.{standing_of, said_in}
 use Rattle.http_wire.proofs.HeadParts.{expects_is, closes_is, same_fields}
 use Rattle.http_wire.specs.declared.scanned.Scanned.{Scanned}
 use Rattle.http_wire.specs.declared.scanned.Scanned.TheVariants as scanned

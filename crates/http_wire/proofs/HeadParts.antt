@@ -8,14 +8,16 @@ use Rattle.httparse.specs.declared.Status.TheVariants.{Complete}
 use Rattle.httparse.specs.Grammar.{RequestHead, ReadsRequest, print_request}
 use Rattle.httparse.specs.Spans.{span_bytes, header_bytes, name_and_value, IsRequestOf, FindsRequest}
 use Rattle.http_wire.specs.declared.heads.HeadParts.{HeadParts}
-use Rattle.http_wire.specs.declared.framing.Framing.{Framing}
-use Rattle.http_wire.specs.Heads.{line_feeds, are_paired, IsHead, is_newer}
-use Rattle.http_wire.specs.Fields.{lines_of, said_by}
+use Rattle.http_fields.specs.declared.framing.Framing.{Framing}
+use Rattle.http_wire.specs.Heads.{are_paired, IsHead, is_newer, lines_of}
+use Rattle.http_fields.specs.Marks.{line_feeds}
+use Rattle.http_fields.specs.Fields.{said_by}
 use Rattle.http_wire.specs.Judging.{too_many_lines, bare_line_end, no_head, fields_judged, has_body, expects, closes}
-use Rattle.http_wire.specs.Found.{said_in, with_lines, AreHeadParts, IsReadAs}
+use Rattle.http_wire.specs.HeadSeen.{AreHeadParts, IsReadAs}
+use Rattle.http_fields.specs.Found.{said_in, with_lines}
 use Rattle.http_wire.specs.Conditions.{asking_lines}
 use Rattle.http_wire.specs.Asked.{behind_start, lines_in}
-use Rattle.http_wire.proofs.FieldLines.{all_lines}
+use Rattle.http_fields.proofs.FieldLines.{all_lines}
 use Rattle.http_wire.proofs.AskingLines.{asking_of_head}
 
 -- the parts of a head at some spans

@@ -4,11 +4,13 @@ use Rattle.std.specs.Prelude.{Some, None, Result, Ok, Err, nat_le, ◌==◌}
 use Rattle.std.proofs.lemmas.Bool.{leb-true, le-leb}
 use Rattle.std.proofs.lemmas.List.{take-append-le, drop-append-le}
 use Rattle.httparse.specs.Grammar.{RequestHead}
-use Rattle.http_wire.specs.Heads.{skipped, length_through, empty_line}
+use Rattle.http_wire.specs.Heads.{skipped}
+use Rattle.http_fields.specs.Marks.{length_through, empty_line}
 use Rattle.http_wire.specs.Judging.{FramedHead, IsJudged, expects}
-use Rattle.http_wire.specs.Chunks.{BodyFront, unfinished, faulty, whole}
+use Rattle.http_fields.specs.Chunks.{BodyFront, unfinished, faulty, whole}
 use Rattle.http_wire.specs.Stream.{Front, IsFront, IsFrontAfter, no_end, one_end, IsSettled, with_body, with_head, without_head, head_length, longest_head, body_front}
-use Rattle.http_wire.proofs.MoreBytes.{body_stays, through_first_stays, through_first_within}
+use Rattle.http_wire.proofs.MoreBytes.{body_stays}
+use Rattle.http_fields.proofs.FoundMarks.{through_first_stays, through_first_within}
 
 -- a front that is settled has a body that is
 body_is_settled : (h : RequestHead) (taken : ℕ) (expect : Bool) (b : BodyFront) → IsSettled (with_body h taken expect b) → b ≢ unfinished

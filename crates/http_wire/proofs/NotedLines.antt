@@ -15,7 +15,7 @@ use Rattle.thing_ops.specs.declared.conditions.Conditions.{Conditions}
 use Rattle.thing_ops.specs.declared.verb.Verb.{Verb}
 use Rattle.thing_ops.specs.Conditions.{no_tags}
 use Rattle.http_wire.specs.declared.conditions.NotedFields.{NotedFields}
-use Rattle.http_wire.specs.Fields.{Line, has_name, values_of, asks_for_version, trimmed}
+use Rattle.http_fields.specs.Fields.{Line, has_name, values_of, asks_for_version, trimmed}
 use Rattle.http_wire.specs.Conditions.{version_of, items_of, is_star, tags_of, without_weak, match_of, none_match_of, reads, conditions_of, asking_lines, NoOtherLineAsks}
 use Rattle.http_wire.specs.Asked.{line_in, both_tags, noted_of, noted_then, opened, named_in, asked_by}
 

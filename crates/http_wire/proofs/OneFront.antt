@@ -3,8 +3,8 @@ use Rattle.std.proofs.Common.{◌≡◌, ℕ, ◌+◌, true≢false, List, [], t
 use Rattle.std.specs.Prelude.{Result}
 use Rattle.httparse.specs.Grammar.{RequestHead}
 use Rattle.httparse.proofs.GrammarLemmas.{request_unique}
-use Rattle.http_wire.specs.Heads.{skipped, is_newer}
-use Rattle.http_wire.specs.Fields.{said_by, lines_of}
+use Rattle.http_wire.specs.Heads.{skipped, is_newer, lines_of}
+use Rattle.http_fields.specs.Fields.{said_by}
 use Rattle.http_wire.specs.Judging.{FramedHead, IsJudged, too_many_lines, bare_line_end, no_head, one_head, fields_judged, with_framing}
 use Rattle.http_wire.specs.Stream.{Front, IsFront, IsFrontAfter, no_end, one_end, with_head}
 

@@ -8,7 +8,7 @@ use Rattle.thing_ops.specs.declared.conditions.Tags.{Tags}
 use Rattle.thing_ops.specs.declared.conditions.Conditions.{Conditions}
 use Rattle.thing_ops.specs.declared.verb.Verb.{Verb}
 use Rattle.http_wire.specs.declared.conditions.NotedFields.{NotedFields}
-use Rattle.http_wire.specs.Fields.{Line, has_name, values_of, trimmed}
+use Rattle.http_fields.specs.Fields.{Line, has_name, values_of, trimmed}
 use Rattle.http_wire.specs.Conditions.{items_of, tags_of, without_weak, none_match_of, reads, asking_lines}
 
 -- the bytes behind the start line of a head: after the first line feed that comes after the first space

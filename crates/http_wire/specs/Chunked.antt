@@ -3,9 +3,9 @@
 use Rattle.std.specs.Prelude.{◌≡◌, ◌≤◌, ◌<◌, ℕ, List, [], ◌++◌, length, Some}
 use Rattle.std.specs.List.{flat_map, AllByRecursion}
 use Rattle.httparse.specs.Grammar.{ChunkLine, print_chunk_line, IsChunkLine, chunk_size}
-use Rattle.http_wire.specs.Heads.{line_end, empty_line, length_through}
+use Rattle.http_fields.specs.Marks.{line_end, empty_line, length_through}
 use Rattle.http_wire.specs.Judging.{longest_body}
-use Rattle.http_wire.specs.Chunks.{whole, chunks}
+use Rattle.http_fields.specs.Chunks.{whole, chunks}
 
 -- A chunk line as it is taken: 1 to 8 digits, no white space after them, at most 64 bytes with its CR LF.
 pub record IsShortLine (l : ChunkLine) : Type 0 where

@@ -1,21 +1,17 @@
 -- The demands of the header lines of a request on the version of a property: If-Match and If-None-Match (RFC 9110,
 -- sections 8.8.3, 13.1.1 and 13.1.2).
-use Rattle.std.specs.Prelude.{◌≡◌, ◌≤◌, ℕ, ◌-◌, ◌==◌, List, [], ◌∷◌, ◌++◌, length, map, take, drop, codes, Bool, true, false, not, ◌&&◌, nat_eq, nat_le, filter_map, Option, Some, None, if◌then◌else◌}
+use Rattle.std.specs.Prelude.{◌≡◌, ◌≤◌, ℕ, ◌-◌, ◌==◌, List, [], ◌∷◌, length, map, take, drop, codes, Bool, true, false, not, ◌&&◌, nat_eq, nat_le, filter_map, Option, Some, None, if◌then◌else◌}
 use Rattle.std.specs.List.{filter, flat_map, list_any, slice_split, starts_with}
-use Rattle.std.specs.Fmt.{decimal}
 use Rattle.std.specs.Str.{bytes_eq}
 use Rattle.std.specs.Str.Parse.{digits_value}
 use Rattle.thing_ops.specs.declared.conditions.Tags.{Tags}
 use Rattle.thing_ops.specs.declared.conditions.Conditions.{Conditions}
 use Rattle.thing_ops.specs.declared.verb.Verb.{Verb}
 use Rattle.thing_ops.specs.declared.verb.Verb.TheVariants as verb
-use Rattle.http_wire.specs.Fields.{Line, values_of, asks_for_version, trimmed}
+use Rattle.http_replies.specs.Writing.{entity_tag}
+use Rattle.http_fields.specs.Fields.{Line, values_of, asks_for_version, trimmed}
 
 -- ---- versions as entity tags
-
--- the entity tag of a version: its number in decimal, in double quotes
-abbrev pub entity_tag : ℕ → List ℕ
-entity_tag version = 34 ∷ (decimal version ++ 34 ∷ [])
 
 -- the number that the bytes between the first and the last say
 abbrev pub number_inside : List ℕ → ℕ

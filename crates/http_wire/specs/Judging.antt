@@ -1,45 +1,16 @@
 -- The judgement of a request head, and the framing of the body after it (RFC 9112, sections 3.2 and 6).
-use Rattle.std.specs.Prelude.{◌≡◌, ◌<◌, ◌≤◌, ℕ, List, length, codes, Bool, true, false, ◌&&◌, ◌||◌, not, nat_lt, Result, Ok, Err, if◌then◌else◌}
-use Rattle.std.specs.List.{list_all}
-use Rattle.std.specs.Char.{is_ascii_digit}
-use Rattle.std.specs.Str.{str_eq_ignore_ascii_case}
-use Rattle.std.specs.Str.Parse.{digits_value}
-use Rattle.http_wire.specs.declared.framing.Framing.{Framing}
-use Rattle.http_wire.specs.declared.framing.Framing.TheVariants as framing
+use Rattle.std.specs.Prelude.{◌≡◌, ◌<◌, ◌≤◌, ℕ, List, Bool, true, false, ◌&&◌, ◌||◌, not, nat_lt, Result, Ok, Err, if◌then◌else◌}
 use Rattle.httparse.specs.Grammar.{RequestHead}
-use Rattle.http_wire.specs.Heads.{line_feeds, are_paired, IsHead, is_newer}
-use Rattle.http_wire.specs.Fields.{Standing, absent, once, often, Said, said_by, lines_of}
+use Rattle.http_fields.specs.declared.framing.Framing.{Framing}
+use Rattle.http_fields.specs.declared.framing.Framing.TheVariants as framing
+use Rattle.http_fields.specs.Marks.{line_feeds}
+use Rattle.http_fields.specs.Fields.{Standing, absent, once, often, Said, said_by}
+use Rattle.http_fields.specs.Framings.{framing_by}
+use Rattle.http_wire.specs.Heads.{are_paired, IsHead, is_newer, lines_of}
 
 -- The most bytes that the body of a request has when it is decoded.
 abbrev pub longest_body : ℕ
 longest_body = 16384
-
--- a length is one decimal digit or more (RFC 9110, section 8.6)
-abbrev pub is_length : List ℕ → Bool
-is_length value = nat_lt 0 (length value) && list_all is_ascii_digit value
-
--- the framing of a body of this length: 400 where it is no length, 413 where it is longer than so many bytes
-abbrev pub stated_framing : ℕ → List ℕ → Result Framing ℕ
-stated_framing most value =
-    if not (is_length value) then Err 400
-    else if nat_lt most (digits_value 10 value) then Err 413
-    else Ok (framing.Stated (digits_value 10 value))
-
--- the framing of a body in this coding: there is none in HTTP/1.0, and none but `chunked` is
--- known (RFC 9112, section 6.1)
-abbrev pub coded_framing : Bool → List ℕ → Result Framing ℕ
-coded_framing newer value =
-    if not newer then Err 400
-    else if str_eq_ignore_ascii_case value (codes "chunked") then Ok framing.Chunked
-    else Err 501
-
--- The framing by `Content-Length` and `Transfer-Encoding`, where a body has at most so many bytes: both together, and
--- more than one of either, are refused (RFC 9112, section 6.3).
-abbrev pub framing_by : ℕ → Bool → Standing → Standing → Result Framing ℕ
-framing_by most newer absent absent = Ok (framing.Stated 0)
-framing_by most newer (once value) absent = stated_framing most value
-framing_by most newer absent (once value) = coded_framing newer value
-framing_by most newer lengths codings = Err 400
 
 -- a field comes just once
 abbrev pub is_once : Standing → Bool
@@ -81,11 +52,6 @@ pub data IsJudged (bytes : List ℕ) (r : Result FramedHead ℕ) : Type 0 where
   no_head : line_feeds bytes ≤ 66 → are_paired 0 bytes ≡ true → ((h : RequestHead) → ¬ (IsHead bytes h)) → r ≡ Err 400 → IsJudged bytes r
   one_head : (h : RequestHead) → line_feeds bytes ≤ 66 → are_paired 0 bytes ≡ true → IsHead bytes h →
       r ≡ with_framing h (fields_judged (is_newer h) (said_by (lines_of h))) → IsJudged bytes r
-
--- a stated length is no more than so many bytes
-abbrev pub IsBounded : ℕ → Framing → Type 0
-IsBounded most (framing.Stated n) = n ≤ most
-IsBounded most framing.Chunked = Unit {0}
 
 -- a body is to come: it is chunked, or its length isn't 0
 abbrev pub has_body : Framing → Bool

@@ -5,14 +5,16 @@
 use Rattle.std.specs.Prelude.{◌≡◌, ℕ, ◌+◌, ◌-◌, List, length, take, drop, Bool, false, nat_le, Option, Some, None, Result, Ok, Err, if◌then◌else◌}
 use Rattle.thing_ops.specs.declared.request.Accept.{Accept}
 use Rattle.thing_ops.specs.declared.request.Format.{Format}
-use Rattle.http_wire.specs.declared.framing.Framing.{Framing}
-use Rattle.http_wire.specs.declared.framing.Framing.TheVariants as framing
+use Rattle.http_fields.specs.declared.framing.Framing.{Framing}
+use Rattle.http_fields.specs.declared.framing.Framing.TheVariants as framing
 use Rattle.httparse.specs.Grammar.{RequestHead}
-use Rattle.http_wire.specs.Heads.{skipped, length_through, empty_line}
-use Rattle.http_wire.specs.Fields.{Line, said_by, lines_of, format_of, accept_of}
+use Rattle.http_wire.specs.Heads.{skipped, lines_of}
+use Rattle.http_fields.specs.Marks.{length_through, empty_line}
+use Rattle.http_fields.specs.Fields.{Line, said_by, format_of, accept_of}
 use Rattle.http_wire.specs.Conditions.{asking_lines}
 use Rattle.http_wire.specs.Judging.{FramedHead, IsJudged, expects, closes, longest_body}
-use Rattle.http_wire.specs.Chunks.{BodyFront, unfinished, faulty, whole, chunks}
+use Rattle.http_fields.specs.Bodies.{stated_body}
+use Rattle.http_fields.specs.Chunks.{BodyFront, unfinished, faulty, whole, chunks}
 
 -- The most bytes of a head, counted from the first that is no skipped CR LF pair.
 abbrev pub longest_head : ℕ
@@ -48,10 +50,6 @@ pub data Front : Type 0 where
   short : (expect : Bool) → Front
   message : (head : PlainHead) (body : List ℕ) (used : ℕ) (expect : Bool) → Front
   fault : (status : ℕ) (expect : Bool) → Front
-
--- a body of this length
-abbrev pub stated_body : ℕ → List ℕ → BodyFront
-stated_body n bytes = if nat_le n (length bytes) then whole (take n bytes) n else unfinished
 
 -- A body in chunks that isn't whole where all bytes are there that it may have is too long: they are read in order, and
 -- the first fault is the one that is seen after the fewest bytes.

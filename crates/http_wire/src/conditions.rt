@@ -4,12 +4,11 @@
 ghost use Rattle.std.specs.Prelude.{◌≡◌, ◌≤◌, ◌∷◌, [], ◌==◌, length, true, IfOk, OnOk};
 ghost use Rattle.std.specs.List.{slice_split};
 ghost use Rattle.http_wire.specs.Conditions.{version_of as version_named, is_star as is_star_item, tags_of, conditions_of, reads as reads_alone, asking_lines};
-ghost use Rattle.http_wire.specs.Pieces.{pieces_left};
+ghost use Rattle.http_fields.specs.Pieces.{pieces_left};
 ghost use Rattle.http_wire.specs.Asked.{line_in, lines_in, both_tags, noted_of, noted_then, opened as opened_item, named_in, is_quoted as stands_quoted, number_named, asked_by as asked_by_noted};
 
 use crate::Head;
-use crate::fields::{is_alike, trim};
-use crate::lines::{Pieces, cut, cut_at_each};
+use http_fields::{Pieces, cut, cut_at_each, is_alike, trim};
 use servient_base::parse_decimal;
 use std::alloc::Global;
 use thing_ops::{Conditions, NoMemory, Tags, Verb};

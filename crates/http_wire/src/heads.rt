@@ -1,21 +1,15 @@
-//! Heads of requests: their end, their line ends and their parts.
+//! Heads of requests: their line ends and their parts.
 
-ghost use Rattle.std.specs.Prelude.{◌≡◌, ◌≤◌, ◌<◌, ◌+◌, ◌==◌, length, take, drop, IfSome, IfOk, Some};
-ghost use Rattle.http_wire.specs.Heads.{skipped, length_through, line_feeds, are_paired};
-ghost use Rattle.http_wire.specs.Found.{IsReadAs};
+ghost use Rattle.std.specs.Prelude.{◌≡◌, ◌≤◌, length, IfOk};
+ghost use Rattle.http_wire.specs.Heads.{skipped, are_paired};
+ghost use Rattle.http_wire.specs.HeadSeen.{IsReadAs};
 
-use crate::fields::{Fields, fields_in};
-use crate::lines::cut;
-use crate::statuses::{BAD_REQUEST, HEAD_TOO_LARGE};
+use http_fields::{
+    BAD_REQUEST, Fields, HEAD_TOO_LARGE, MOST_LINE_FEEDS, MOST_LINES, count_line_feeds, cut,
+    fields_in,
+};
 use httparse::Status;
 use httparse::spans::{EMPTY_HEADER_SPAN, parse_request};
-use memchr::memmem;
-
-/// The most header lines of a head.
-pub const MOST_LINES: usize = 64;
-
-/// The line feeds of a head with the most header lines: 64, the start line and the empty line.
-pub const MOST_LINE_FEEDS: usize = 66;
 
 /// The bytes after the CR LF pairs in front, which a server ignores, as RFC 9112 says in section 2.2.
 pub fn skip_pairs(bytes: &[u8]) -> &[u8]
@@ -27,53 +21,6 @@ pub fn skip_pairs(bytes: &[u8]) -> &[u8]
         rest = after;
     }
     rest
-}
-
-/// The first bytes, at most `most` of them.
-pub fn front(bytes: &[u8], most: usize) -> &[u8]
-    ensures ok { result.now ≡ take most bytes.now }
-    ensures bound { length result.now ≤ length bytes.now }
-    ensures most { length result.now ≤ most }
-{
-    if most < bytes.len() {
-        &bytes[..most]
-    } else {
-        bytes
-    }
-}
-
-/// The bytes from a place on.
-pub fn rest_from(bytes: &[u8], place: usize) -> &[u8]
-    requires { place ≤ length bytes.now }
-    ensures { result.now ≡ drop place bytes.now }
-{
-    &bytes[place..]
-}
-
-/// The number of bytes up to the first mark, the mark among them.
-pub fn length_through_mark(mark: &[u8], bytes: &[u8]) -> Option<usize>
-    requires { 0 < length mark.now }
-    ensures ok { result ≡ length_through mark.now bytes.now }
-    ensures bound { IfSome result (λ n. n ≤ length bytes.now) }
-    ensures through { IfSome result (λ n. length mark.now ≤ n) }
-{
-    match memmem::find(bytes, mark) {
-        Some(place) => Some(place + mark.len()),
-        None => None,
-    }
-}
-
-/// Counts the line feeds.
-pub fn count_line_feeds(bytes: &[u8]) -> usize
-    ensures ok { result ≡ line_feeds bytes.now }
-{
-    let mut count = 0;
-    for byte in bytes {
-        if *byte == b'\n' {
-            count += 1;
-        }
-    }
-    count
 }
 
 /// Says whether each carriage return and each line feed is part of a CR LF.

@@ -1,9 +1,7 @@
 //! Laws of the front of a stream and of entity tags, as contracts of functions that do nothing.
 
-ghost use Rattle.std.specs.Prelude.{◌≡◌, ◌++◌, ℕ, Bool, List};
+ghost use Rattle.std.specs.Prelude.{◌≡◌, ◌++◌, ℕ, List};
 ghost use Rattle.http_wire.specs.Stream.{Front, IsFront, IsSettled};
-ghost use Rattle.http_wire.specs.declared.reply_scan.ReplyScan.{ReplyScan};
-ghost use Rattle.http_wire.specs.ReplyFronts.{IsReply};
 ghost use Rattle.http_wire.specs.Chunked.{EachWholeIsSpelled, EachSpelledIsRead};
 ghost use Rattle.http_wire.specs.Conditions.{TagsAreReadAgain, NoOtherLineAsks};
 
@@ -16,11 +14,6 @@ pub fn one_front()
 /// stream comes decide only when a message is there.
 pub fn front_is_stable()
     ensures { (bytes more : List ℕ) (f : Front) → IsFront bytes f → IsSettled f → IsFront (bytes ++ more) f }
-{}
-
-/// Of a stream of replies one thing at most is scanned.
-pub fn one_reply()
-    ensures { (bytes : List ℕ) (ended : Bool) (r s : ReplyScan) → IsReply bytes ended r → IsReply bytes ended s → r ≡ s }
 {}
 
 /// A whole body in chunks is read exactly where one is spelled (RFC 9112, section 7.1): each one that is read is the

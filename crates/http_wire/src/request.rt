@@ -8,7 +8,8 @@ ghost use Rattle.http_wire.specs.Scanned.{plain_head};
 ghost use Rattle.http_wire.specs.declared.target.TargetFault.TheVariants.{BadTarget, NoMemory as no_memory};
 
 use crate::target::segments;
-use crate::{Body, Head, TargetFault};
+use crate::{Head, TargetFault};
+use http_fields::Body;
 use std::alloc::Global;
 use thing_ops::{Accept, Conditions, Format, Request, Segments, Verb};
 

@@ -1,21 +1,28 @@
 //! `scan` reads the front of a stream.
 
-ghost use Rattle.std.specs.Prelude.{◌≡◌, ◌≤◌, ◌<◌, ◌+◌, ◌^◌, length};
+ghost use Rattle.std.specs.Prelude.{◌≡◌, ◌≤◌, ◌<◌, ◌+◌, ◌^◌, length, take};
 ghost use Rattle.httparse.specs.Grammar.{RequestHead};
-ghost use Rattle.http_wire.specs.Judging.{IsBounded, longest_body, expects};
-ghost use Rattle.http_wire.specs.Stream.{IsFront, with_body, body_front, longest_head};
+ghost use Rattle.http_fields.specs.BodySeen.{body_seen, IsWithin};
+ghost use Rattle.http_fields.specs.Chunks.{chunks};
+ghost use Rattle.http_fields.specs.Framings.{IsBounded};
+ghost use Rattle.http_wire.specs.Judging.{longest_body, expects};
+ghost use Rattle.http_wire.specs.Stream.{IsFront, with_body, body_front, longest_head, longest_coded, within_longest};
 ghost use Rattle.http_wire.specs.Scanned.{front_of, TakesBetween};
-ghost use Rattle.http_wire.specs.Found.{AreHeadParts};
+ghost use Rattle.http_wire.specs.HeadSeen.{AreHeadParts};
 
-use crate::chunks::{BodyScan, chunked_at_front};
-use crate::fields::{EITHER_TYPE, format};
-use crate::framing::{Framing, framing_of, has_body};
-use crate::heads::{HeadParts, front, length_through_mark, read_head, skip_pairs};
-use crate::statuses::HEAD_TOO_LARGE;
-use crate::{Body, Head, Scanned};
+use crate::framing::{LONGEST_BODY, framing_of, has_body};
+use crate::heads::{HeadParts, read_head, skip_pairs};
+use crate::{Head, Scanned};
+use http_fields::{
+    Body, BodyScan, CONTENT_TOO_LARGE, EITHER_TYPE, Framing, HEAD_TOO_LARGE, chunks_at_front,
+    format, front, length_through_mark,
+};
 
 /// The most bytes of a head.
 const LONGEST_HEAD: usize = 8192;
+
+/// The most bytes of a body in chunks, with chunk lines and trailers.
+const LONGEST_CODED: usize = 20480;
 
 /// Reads the front of a stream of which these bytes have come. It takes no memory.
 pub fn scan(bytes: &[u8]) -> Scanned<'_>
@@ -96,5 +103,24 @@ fn scan_body<'a>(
             used: taken + used,
             expect,
         },
+    }
+}
+
+/// The body in chunks, at the front of the bytes after the head of a request.
+fn chunked_at_front(bytes: &[u8]) -> BodyScan<'_>
+    ensures ok { body_seen result ≡ within_longest bytes.now (chunks longest_body 0 0 (take longest_coded bytes.now)) }
+    ensures within { IsWithin longest_body result (length bytes.now) }
+{
+    // The first bytes alone are read, so that a call takes no longer, whatever comes behind them.
+    match chunks_at_front(LONGEST_BODY, front(bytes, LONGEST_CODED)) {
+        BodyScan::Unfinished => {
+            if bytes.len() >= LONGEST_CODED {
+                BodyScan::Faulty(CONTENT_TOO_LARGE)
+            } else {
+                BodyScan::Unfinished
+            }
+        }
+        BodyScan::Faulty(status) => BodyScan::Faulty(status),
+        BodyScan::Whole { body, used } => BodyScan::Whole { body, used },
     }
 }

@@ -4,7 +4,7 @@ ghost use Rattle.std.specs.Prelude.{◌≡◌, ◌<◌, ◌⊎◌, length, Some,
 ghost use Rattle.http_wire.specs.Targets.{path_behind_authority, path_in, segments_behind as segments_behind_of, segments_of, query_place};
 ghost use Rattle.http_wire.specs.declared.target.TargetFault.TheVariants.{BadTarget, NoMemory as no_memory};
 
-use crate::lines::{cut, cut_at_each};
+use http_fields::{cut, cut_at_each};
 use memchr::memchr;
 use percent_encoding::percent_decode;
 use std::alloc::{AllocError, Global};

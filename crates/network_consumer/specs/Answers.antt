@@ -4,9 +4,9 @@ use Rattle.std.specs.Prelude.{◌≡◌, ◌≢◌, ◌⊎◌, ◌==◌, ◌/◌
 use Rattle.wot_json.specs.Tree.{Json}
 use Rattle.wot_json.specs.Meaning.{json_of}
 use Rattle.wot_json.specs.Reading.{tree_of}
-use Rattle.http_wire.specs.declared.reply_scan.ReplyScan.{ReplyScan}
-use Rattle.http_wire.specs.declared.reply_scan.ReplyScan.TheVariants as scan
-use Rattle.http_wire.specs.ReplyFronts.{IsReply}
+use Rattle.http_replies.specs.declared.reply_scan.ReplyScan.{ReplyScan}
+use Rattle.http_replies.specs.declared.reply_scan.ReplyScan.TheVariants as scan
+use Rattle.http_replies.specs.ReplyFronts.{IsReply}
 use Rattle.wot_terms.specs.Faults.{IsValid}
 use Rattle.wot_consumer.specs.Operations.{is_consumed}
 use Rattle.wot_consumer.specs.Judgement.{AcceptsOutput, HasAffordance}

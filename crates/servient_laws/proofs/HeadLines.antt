@@ -4,7 +4,8 @@ use Rattle.std.specs.Prelude.{◌==◌, nat_eq}
 use Rattle.std.specs.List.{AllByRecursion}
 use Rattle.std.proofs.lemmas.Bool.Decides.{nat_tests}
 use Rattle.std.proofs.lemmas.List.{length-append}
-use Rattle.http_wire.specs.Heads.{length_through, empty_line, line_feeds, are_paired}
+use Rattle.http_wire.specs.Heads.{are_paired}
+use Rattle.http_fields.specs.Marks.{length_through, empty_line, line_feeds}
 
 -- a byte that is no part of a line's end
 abbrev pub IsPlain : ℕ → Type 0

@@ -23,7 +23,7 @@ use Rattle.coap_bind.specs.declared.blocks.BlockOption.TheVariants as option
 use Rattle.coap_blocks.specs.Bodies.{longest_body}
 use Rattle.coap_bind.specs.Blocks.{is_representation, given_portion, all_of, portion_of, most_bytes, answer_reply, with_block, option_of}
 use Rattle.coap_bind.specs.Writing.{place_of, text_format, format_options, etag_options, observe_options, reply_options, whole_reply, observed, coap_reply, head_in}
-use Rattle.http_wire.specs.Writing.{PlainReply, http_reply}
+use Rattle.http_replies.specs.Writing.{PlainReply, http_reply}
 use Rattle.http_bind.specs.Replying.{reply, reply_head, reply_body, longest_reply_head, head_of, head_with, location_of}
 use Rattle.thing_ops.specs.Requests.{RequestSeen}
 use Rattle.http_bind.specs.Streams.{HttpReply, Streams, connection_at, Answers as AnswersRequest, lets_wait, sends_reply, waits_of}

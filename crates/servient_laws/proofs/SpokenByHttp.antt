@@ -9,15 +9,18 @@ use Rattle.std.proofs.lemmas.Bool.Decides.{nat_tests}
 use Rattle.std.proofs.lemmas.List.{length-map, take_all}
 use Rattle.httparse.specs.Grammar.{print_request}
 use Rattle.httparse.specs.Spans.{name_and_value}
-use Rattle.http_wire.specs.declared.framing.Framing.{Framing}
-use Rattle.http_wire.specs.declared.framing.Framing.TheVariants as framing
-use Rattle.http_wire.specs.Heads.{skipped, length_through, empty_line, line_feeds, is_newer}
+use Rattle.http_fields.specs.declared.framing.Framing.{Framing}
+use Rattle.http_fields.specs.declared.framing.Framing.TheVariants as framing
+use Rattle.http_wire.specs.Heads.{skipped, is_newer, lines_of}
+use Rattle.http_fields.specs.Marks.{length_through, empty_line, line_feeds}
 use Rattle.http_wire.specs.Conditions.{conditions_of}
 use Rattle.http_wire.proofs.NotedLines.{no_other_line_asks}
-use Rattle.http_wire.specs.Fields.{Standing, once, Said, said_by, lines_of, format_of, accept_of}
-use Rattle.http_wire.specs.Judging.{FramedHead, IsJudged, one_head, is_once, is_often, is_length, stated_framing, framing_by, fields_judged, with_framing, has_body, longest_body}
-use Rattle.http_wire.specs.Stream.{IsFront, IsFrontAfter, one_end, longest_head, plain_head_of, with_body, with_head, stated_body}
-use Rattle.http_wire.specs.Chunks.{BodyFront, whole}
+use Rattle.http_fields.specs.Fields.{Standing, once, Said, said_by, format_of, accept_of}
+use Rattle.http_wire.specs.Judging.{FramedHead, IsJudged, one_head, is_once, is_often, fields_judged, with_framing, has_body, longest_body}
+use Rattle.http_fields.specs.Framings.{is_length, stated_framing, framing_by}
+use Rattle.http_wire.specs.Stream.{IsFront, IsFrontAfter, one_end, longest_head, plain_head_of, with_body, with_head}
+use Rattle.http_fields.specs.Bodies.{stated_body}
+use Rattle.http_fields.specs.Chunks.{BodyFront, whole}
 use Rattle.http_wire.specs.Reading.{verb_of, request_at, asked}
 use Rattle.http_bind.specs.Streams.{asks, read_as, to_take}
 use Rattle.thing_ops.specs.declared.verb.Verb.{Verb}

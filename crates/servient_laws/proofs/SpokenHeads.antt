@@ -15,7 +15,7 @@ use Rattle.std.proofs.lemmas.Str.Parse.{digit_at}
 use Rattle.httparse.specs.Grammar.{is_token_byte, is_uri_byte, is_value_byte, is_ows, AllPass, IsToken, Field, IsField, crlf, skip_ows, trim_ows, print_field, print_section, print_request, IsRequestHead}
 use Rattle.httparse.specs.Spans.{name_and_value}
 use Rattle.httparse.proofs.TrimLemmas.{AllPass-reverse}
-use Rattle.http_wire.specs.Fields.{absent, once, standing, is_continue, types_taken, Said, said_by, format_of, accept_of}
+use Rattle.http_fields.specs.Fields.{absent, once, standing, is_continue, types_taken, Said, said_by, format_of, accept_of}
 use Rattle.http_wire.specs.Judging.{is_once, is_often, longest_body}
 use Rattle.thing_ops.specs.declared.verb.Verb.{Verb}
 use Rattle.thing_ops.specs.declared.verb.Verb.TheVariants as verb

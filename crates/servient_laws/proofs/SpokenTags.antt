@@ -16,8 +16,9 @@ use Rattle.thing_ops.specs.declared.conditions.Tags.{Tags}
 use Rattle.thing_ops.specs.declared.conditions.Conditions.{Conditions}
 use Rattle.thing_ops.specs.declared.verb.Verb.{Verb}
 use Rattle.thing_ops.specs.declared.verb.Verb.TheVariants as verb
-use Rattle.http_wire.specs.Conditions.{entity_tag, version_of, items_of, is_star, tags_of, without_weak, match_of, none_match_of, reads, conditions_of}
-use Rattle.http_wire.specs.Fields.{trimmed, values_of}
+use Rattle.http_wire.specs.Conditions.{version_of, items_of, is_star, tags_of, without_weak, match_of, none_match_of, reads, conditions_of}
+use Rattle.http_replies.specs.Writing.{entity_tag}
+use Rattle.http_fields.specs.Fields.{trimmed, values_of}
 use Rattle.http_wire.proofs.EntityTags.{tags_are_read_again}
 use Rattle.servient_laws.specs.Spoken.{IsVersion, IsSaidByBoth, MayBeAsked, tag_lines, match_lines, absent_lines, condition_lines}
 use Rattle.servient_laws.proofs.HeadLines.{IsPlain, IsLine, AreLines}

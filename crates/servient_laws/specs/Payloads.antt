@@ -8,7 +8,7 @@ use Rattle.coap_msg.specs.Numbers.{number_bytes}
 use Rattle.coap_opts.specs.Reading.{values_under}
 use Rattle.thing_ops.specs.declared.outcome.Outcome.{Outcome}
 use Rattle.thing_ops.specs.Outcomes.{payload_of, version_of}
-use Rattle.http_wire.specs.Writing.{PlainReply, http_reply}
+use Rattle.http_replies.specs.Writing.{PlainReply, http_reply}
 use Rattle.coap_bind.specs.declared.blocks.BlockUse.{BlockUse}
 use Rattle.coap_bind.specs.declared.blocks.BlockUse.TheVariants as blocks
 use Rattle.coap_bind.specs.Blocks.{most_bytes, portion_of}

@@ -19,7 +19,7 @@ use Rattle.thing_ops.specs.declared.request.Format.TheVariants as format
 use Rattle.thing_ops.specs.declared.conditions.Tags.{Tags}
 use Rattle.thing_ops.specs.declared.conditions.Conditions.{Conditions}
 use Rattle.thing_ops.specs.Requests.{RequestSeen}
-use Rattle.http_wire.specs.Conditions.{entity_tag}
+use Rattle.http_replies.specs.Writing.{entity_tag}
 use Rattle.http_wire.specs.Judging.{longest_body}
 use Rattle.http_wire.specs.Stream.{Front, IsFront, longest_head}
 use Rattle.http_bind.specs.Streams.{asks, to_take}

@@ -20,21 +20,7 @@ pub struct Ends {
 
 impl Ends {
     ghost use Rattle.std.specs.Prelude.{◌≡◌};
-    ghost use Rattle.slot_lists.specs.Links.{ends_with, ends_without};
-
-    /// The ends once this slot was put after the last one.
-    pub fn with(&self, slot: u32) -> Ends
-        ensures { result ≡ ends_with slot self.now }
-    {
-        let first = match self.first {
-            Some(first) => first,
-            None => slot,
-        };
-        Ends {
-            first: Some(first),
-            last: Some(slot),
-        }
-    }
+    ghost use Rattle.slot_lists.specs.Links.{ends_without};
 
     /// The ends once the slot with this link was taken out.
     pub fn without(&self, link: SlotLink) -> Ends

@@ -55,7 +55,10 @@ impl SlotLists {
             next: None,
         };
         set_next(&mut self.links, ends.last, Some(slot));
-        self.ends[list as usize] = ends.with(slot);
+        self.ends[list as usize] = Ends {
+            first: Some(ends.first.unwrap_or(slot)),
+            last: Some(slot),
+        };
     }
 
     /// Takes a slot out of the list that it is in.

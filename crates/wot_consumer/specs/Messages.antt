@@ -3,7 +3,7 @@ use Rattle.std.specs.Prelude.{ℕ, List, [], ◌∷◌, ◌++◌, length, Option
 use Rattle.std.specs.List.{flat_map}
 use Rattle.servient_base.specs.Encoding.{encoded}
 use Rattle.thing_ops.specs.Verbs.{verb_name}
-use Rattle.http_wire.specs.Heads.{line_end}
+use Rattle.http_fields.specs.Marks.{line_end}
 use Rattle.wot_consumer.specs.declared.chosen.Chosen.{Chosen}
 
 -- a header line

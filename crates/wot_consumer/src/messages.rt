@@ -3,7 +3,7 @@
 ghost use Rattle.std.specs.Prelude.{◌≡◌, ◌++◌, [], None, Some, codes, decimal, option_map, slice_get, IfOk, OnOk, string_bytes};
 ghost use Rattle.std.specs.Option.{option_map_or};
 ghost use Rattle.thing_ops.specs.Verbs.{verb_name};
-ghost use Rattle.http_wire.specs.Heads.{line_end};
+ghost use Rattle.http_fields.specs.Marks.{line_end};
 ghost use Rattle.wot_consumer.specs.Messages as message;
 
 use crate::Chosen;

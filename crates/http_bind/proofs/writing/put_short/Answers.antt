@@ -1,8 +1,8 @@
 use Rattle.std.proofs.Common.{arith, ◌≤◌, length, ℕ, List, refl}
 use Rattle.std.specs.Prelude.{Option, Some, None, IsSome}
 use Rattle.servient_base.specs.Writing.{PutsIfRoom}
-use Rattle.http_wire.specs.Writing.{http_reply}
-use Rattle.http_wire.specs.Replies.{plain_reply}
+use Rattle.http_replies.specs.Writing.{http_reply}
+use Rattle.http_replies.specs.Replies.{plain_reply}
 use Rattle.http_bind.proofs.ShortReplies.{short_reply}
 use Rattle.http_bind.proofs.writing.put_short.Goals as goal
 

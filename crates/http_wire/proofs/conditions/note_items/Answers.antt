@@ -1,7 +1,7 @@
 use Rattle.std.proofs.Common.{◌∙◌, ap, ℕ, List, ◌∷◌, []}
 use Rattle.std.specs.Prelude.{◌==◌}
 use Rattle.std.specs.List.{slice_split}
-use Rattle.http_wire.specs.Pieces.{pieces_left}
+use Rattle.http_fields.specs.Pieces.{pieces_left}
 use Rattle.http_wire.specs.Conditions.{tags_of}
 use Rattle.http_wire.specs.Asked.{both_tags, opened}
 use Rattle.http_wire.proofs.NotedLines.{item_kept}

@@ -1,7 +1,7 @@
 use Rattle.std.proofs.Common.{◌≡◌}
 use Rattle.std.specs.Prelude.{◌==◌}
 use Rattle.std.specs.List.{slice_split}
-use Rattle.http_wire.specs.Pieces.{pieces_left}
+use Rattle.http_fields.specs.Pieces.{pieces_left}
 use Rattle.http_wire.specs.Asked.{both_tags, named_in}
 use Rattle.http_wire.proofs.conditions.note_items.Given as goal
 

@@ -2,7 +2,7 @@ use Rattle.std.proofs.Common.{◌∙◌, ap, sym, false, codes, ℕ, List}
 use Rattle.std.specs.Prelude.{◌==◌}
 use Rattle.std.specs.List.{slice_split}
 use Rattle.std.specs.Str.{str_eq_ignore_ascii_case}
-use Rattle.http_wire.specs.Fields.{trimmed}
+use Rattle.http_fields.specs.Fields.{trimmed}
 use Rattle.http_wire.specs.Asked.{line_in, both_tags, named_in}
 use Rattle.http_wire.proofs.NotedLines.{on_ok, matched_line}
 use Rattle.http_wire.proofs.conditions.note_line.Goals as goal

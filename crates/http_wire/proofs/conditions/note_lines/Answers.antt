@@ -1,4 +1,4 @@
-use Rattle.http_wire.specs.Pieces.{pieces_left}
+use Rattle.http_fields.specs.Pieces.{pieces_left}
 use Rattle.std.specs.Prelude.{◌==◌}
 use Rattle.std.specs.List.{slice_split}
 use Rattle.http_wire.proofs.NotedLines.{line_kept}

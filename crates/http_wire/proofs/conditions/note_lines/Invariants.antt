@@ -1,5 +1,5 @@
 use Rattle.std.proofs.Common.{◌≡◌, map}
-use Rattle.http_wire.specs.Pieces.{pieces_left}
+use Rattle.http_fields.specs.Pieces.{pieces_left}
 use Rattle.http_wire.specs.Asked.{line_in, lines_in, noted_of, noted_then}
 use Rattle.http_wire.proofs.conditions.note_lines.Given as goal
 

@@ -1,7 +1,7 @@
 use Rattle.std.proofs.Common.{rules, ◌≡◌, ◌||◌, ◌&&◌, ◌∙◌, ap, sym}
 use Rattle.std.specs.Prelude.{not}
 use Rattle.http_wire.specs.Judging.{has_body}
-use Rattle.http_wire.specs.BodySeen.{body_seen}
+use Rattle.http_fields.specs.BodySeen.{body_seen}
 use Rattle.http_wire.specs.Stream.{body_front}
 use Rattle.http_wire.proofs.Fronts.{message_with_body}
 use Rattle.http_wire.proofs.stream.scan_body.Goals as goal

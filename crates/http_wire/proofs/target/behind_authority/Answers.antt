@@ -2,7 +2,7 @@ use Rattle.std.proofs.Common.{◌≡◌, ◌∙◌, rules, arith}
 use Rattle.std.proofs.lemmas.Grind.{common_steps}
 use Rattle.std.specs.Prelude.{◌==◌}
 use Rattle.std.specs.List.{position_or_len}
-use Rattle.http_wire.proofs.Places.{place_or_end}
+use Rattle.http_fields.proofs.Places.{place_or_end}
 use Rattle.http_wire.proofs.target.behind_authority.Goals as goal
 
 pub returns-then-slash-bytes-clause-ok : goal.returns-then-slash-bytes-clause-ok

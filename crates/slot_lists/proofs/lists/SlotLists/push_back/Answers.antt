@@ -1,5 +1,5 @@
 -- The slot is linked after the last one, and nothing else changes.
-use Rattle.std.proofs.Common.{◌≡◌, ◌∷◌, [], ◌++◌, ◌<◌, ℕ, List, false, Some, None, length, get_or, set, subst, sym, ap, ◌∙◌}
+use Rattle.std.proofs.Common.{◌≡◌, ◌∷◌, [], ◌++◌, ◌<◌, ℕ, List, false, Some, None, length, get_or, set, subst, sym, ap, ◌∙◌, rules}
 use Rattle.std.proofs.lemmas.List.{get_or_read, length-map, length-set}
 use Rattle.slot_lists.specs.declared.link.SlotLink.{SlotLink}
 use Rattle.slot_lists.specs.declared.link.Ends.{Ends}
@@ -13,9 +13,9 @@ set_next-requires c =
     let many : length (lists_in c.self.inside.links.items c.self.inside.ends.items) ≡ length c.self.inside.ends.items = length-map c.self.inside.ends.items _ in
     let within : c.args.list < length c.self.inside.ends.items
     = subst (λ n. c.args.list < n) (sym (ap (λ (t : Lists). length t.lists) c.self.view_is) ∙ many) c.requires.list in
-    let read : c.index.result.now ≡ ends_at c.self.inside.ends.items c.args.list
-    = get_or_read c.self.inside.ends.items c.args.list c.index.result.now within c.index.ensures (record { first = None; last = None }) in
-    if_some_bound c.index.result.now.last _ (λ z e.
+    let read : c.index-ends.result.now ≡ ends_at c.self.inside.ends.items c.args.list
+    = get_or_read c.self.inside.ends.items c.args.list c.index-ends.result.now within c.index-ends.ensures (record { first = None; last = None }) in
+    if_some_bound c.index-ends.result.now.last _ (λ z e.
     subst (λ n. z < n) (sym (length-set c.self.inside.links.items c.args.slot _))
     (last_is_place c.self.inside.links.items c.self.inside.ends.items (lists_in c.self.inside.links.items c.self.inside.ends.items) c.args.list c.self.invariant within z
     (sym (ap (λ (x : Ends). x.last) read) ∙ e)))
@@ -33,14 +33,18 @@ made links links2 ends t list slot x w m view list_within slot_within none read 
 
 pub invariant_of-self : goal.invariant_of-self
 invariant_of-self c =
-    makes_seen _ _ _ (made c.self.inside.links.items c.set_next.new.links.items c.self.inside.ends.items c.args.self.now c.args.list c.args.slot c.index.result.now c.with.result
-    c.self.invariant c.self.view_is c.requires.list c.requires.slot c.requires.apart c.index.ensures c.with.ensures c.set_next.ensures)
+    let w : Ends = record { first = Some c.unwrap_or.result; last = Some c.args.slot } in
+    let with_slot : w ≡ ends_with c.args.slot c.index-ends.result.now = search rules in
+    makes_seen _ _ _ (made c.self.inside.links.items c.set_next.new.links.items c.self.inside.ends.items c.args.self.now c.args.list c.args.slot c.index-ends.result.now w
+    c.self.invariant c.self.view_is c.requires.list c.requires.slot c.requires.apart c.index-ends.ensures with_slot c.set_next.ensures)
 
 pub returns : goal.returns
 returns c =
-    let m = made c.self.inside.links.items c.set_next.new.links.items c.self.inside.ends.items c.args.self.now c.args.list c.args.slot c.index.result.now c.with.result
-    c.self.invariant c.self.view_is c.requires.list c.requires.slot c.requires.apart c.index.ensures c.with.ensures c.set_next.ensures in
+    let w : Ends = record { first = Some c.unwrap_or.result; last = Some c.args.slot } in
+    let with_slot : w ≡ ends_with c.args.slot c.index-ends.result.now = search rules in
+    let m = made c.self.inside.links.items c.set_next.new.links.items c.self.inside.ends.items c.args.self.now c.args.list c.args.slot c.index-ends.result.now w
+    c.self.invariant c.self.view_is c.requires.list c.requires.slot c.requires.apart c.index-ends.ensures with_slot c.set_next.ensures in
     let many : length c.set_next.new.links.items ≡ length c.self.inside.links.items
-    = ap length c.set_next.ensures ∙ (length-with_next c.index.result.now.last (Some c.args.slot) _ ∙ length-set c.self.inside.links.items c.args.slot _) in
-    subst (λ t. seen c.set_next.new.links.items (set c.self.inside.ends.items c.args.list c.with.result) ≡ with_list c.args.list (list_at c.args.list t ++ c.args.slot ∷ []) t) c.self.view_is
-    (seen_as c.set_next.new.links.items (set c.self.inside.ends.items c.args.list c.with.result) _ (length c.self.inside.links.items) m many)
+    = ap length c.set_next.ensures ∙ (length-with_next c.index-ends.result.now.last (Some c.args.slot) _ ∙ length-set c.self.inside.links.items c.args.slot _) in
+    subst (λ t. seen c.set_next.new.links.items (set c.self.inside.ends.items c.args.list w) ≡ with_list c.args.list (list_at c.args.list t ++ c.args.slot ∷ []) t) c.self.view_is
+    (seen_as c.set_next.new.links.items (set c.self.inside.ends.items c.args.list w) _ (length c.self.inside.links.items) m many)

@@ -1,0 +1,8 @@
+pub mod Marks
+pub mod Fields
+pub mod Framings
+pub mod Chunks
+pub mod Bodies
+pub mod Pieces
+pub mod Found
+pub mod BodySeen

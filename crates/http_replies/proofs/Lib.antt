@@ -1,0 +1,4 @@
+pub mod ReplyHeads
+pub mod ReplySteps
+pub mod ReplyLines
+pub mod OneReply

@@ -1,0 +1,4 @@
+pub mod Writing
+pub mod Replies
+pub mod ReplyFronts
+pub mod ReplySeen

@@ -1,6 +1,0 @@
-use Rattle.std.proofs.Common.{◌≡◌, ◌≤◌, ◌+◌, drop}
-use Rattle.http_wire.specs.Heads.{line_feeds}
-use Rattle.http_wire.proofs.heads.count_line_feeds.Given as goal
-
-abbrev pub invariant-loop-byte : goal.invariant-loop-byte
-invariant-loop-byte l = (line_feeds l.bytes ≡ l.count + line_feeds (drop l.byte-index l.bytes)) × (l.count ≤ l.byte-index)

@@ -1,5 +1,0 @@
-use Rattle.http_wire.proofs.OneReply.{at_most_one_reply}
-use Rattle.http_wire.proofs.laws.one_reply.Goals as goal
-
-pub returns : goal.returns
-returns c = at_most_one_reply

@@ -10,7 +10,7 @@ use Rattle.servient_core.specs.declared.serving.Served.{Served}
 use Rattle.servient_core.specs.declared.serving.Served.TheVariants as served
 use Rattle.servient_core.specs.declared.sections.SectionsEnd.{SectionsEnd}
 use Rattle.servient_core.specs.declared.sections.SectionsEnd.TheVariants as ending
-use Rattle.thing_core.specs.Thing.{most_turns}
+use Rattle.thing_state.specs.State.{most_turns}
 use Rattle.servient_core.specs.declared.sections.RunBounds.{RunBounds}
 use Rattle.servient_trace.specs.ShownSections.{Shown}
 use Rattle.servient_core.specs.Sections.{ServesInSections}

@@ -12,13 +12,13 @@ use Rattle.thing_ops.specs.Requests.{RequestSeen}
 use Rattle.thing_ops.specs.Verbs.{verbs_of}
 use Rattle.thing_ops.specs.Routes.{route_of, has_form, the, any, entry_id, invocation_id, invocation_in}
 use Rattle.thing_site.specs.Site.{Placed, Site}
-use Rattle.thing_core.specs.State.{State, Invocation, invocation_named}
+use Rattle.thing_state.specs.State.{State, Invocation, invocation_named}
 use Rattle.thing_site.specs.Places.{place_at, thing_in, affordance_in, where_observable, act_at, act_of, flags_of, is_listed}
 use Rattle.thing_site.specs.declared.place.Resource.{Resource}
 use Rattle.thing_site.specs.declared.place.ThingAct.{ThingAct}
 use Rattle.thing_site.specs.declared.place.Resource.TheVariants.{Description as description, AllProperties as all_properties, Property as property, Observed as observed, Action as action, Invocation as invocation, Event as event, Subscribed as subscribed}
 use Rattle.thing_site.specs.declared.place.ThingAct.TheVariants.{Invokes as invokes}
-use Rattle.thing_core.specs.Places.{place_of, where_stands}
+use Rattle.thing_state.specs.Places.{place_of, where_stands}
 use Rattle.thing_core.specs.Refusals.{act_asked}
 
 -- a short path: of at most three segments of at most 255 bytes

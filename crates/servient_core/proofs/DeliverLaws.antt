@@ -7,7 +7,7 @@ use Rattle.servient_base.proofs.MovesLaws.{refines_each_none, refines_each_more}
 use Rattle.thing_handler.specs.Handler.{Seen}
 use Rattle.thing_site.specs.Site.{Placed, Site, events_of}
 use Rattle.thing_site.specs.Fits.{Fits}
-use Rattle.thing_core.specs.State.{State as ThingState, last_of}
+use Rattle.thing_state.specs.State.{State as ThingState, last_of}
 use Rattle.thing_core.specs.Thing.{PollsEvent}
 use Rattle.thing_core.specs.Kept.{Kept}
 use Rattle.thing_core.specs.declared.polling.Round.{Round}

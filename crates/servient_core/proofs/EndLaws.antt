@@ -3,7 +3,7 @@ use Rattle.std.proofs.Common.{◌≡◌, ℕ, List, [], ◌∷◌, refl, sym, ap
 use Rattle.std.specs.Prelude.{Some, None}
 use Rattle.servient_base.specs.Moves.{Passing, Then, Until, Refines}
 use Rattle.thing_handler.specs.Handler.{Seen}
-use Rattle.thing_core.specs.State.{State as ThingState}
+use Rattle.thing_state.specs.State.{State as ThingState}
 use Rattle.coap_exchange.specs.Table.{Table}
 use Rattle.coap_observe.specs.declared.notice.Notice.{Notice}
 use Rattle.coap_bind.specs.declared.server.Server.{Server}

@@ -8,9 +8,10 @@ use Rattle.coap_msg.specs.declared.endpoint.Endpoint.{Endpoint}
 use Rattle.thing_handler.specs.Turns.{HandlerCall, RunTurn, AreNumberedFrom, turns_in}
 use Rattle.thing_handler.proofs.TurnLaws.{numbered_then}
 use Rattle.thing_site.specs.Site.{Placed, events_of}
-use Rattle.thing_core.specs.State.{State as ThingState, Emission, last_of}
+use Rattle.thing_state.specs.State.{State as ThingState, Emission, last_of}
 use Rattle.thing_ops.specs.Requests.{RequestSeen}
-use Rattle.thing_core.specs.Thing.{Move as ThingMove, Done, Acts, PollsEvent}
+use Rattle.thing_state.specs.Calls.{Move as ThingMove}
+use Rattle.thing_core.specs.Thing.{Done, Acts, PollsEvent}
 use Rattle.coap_bind.specs.declared.server.Server.{Server}
 use Rattle.coap_bind.specs.Server.{Heard, ignored, answered_at_once, asked, Hears, Answers, with_emitted, SendsNext}
 use Rattle.servient_outside.specs.declared.net.Act.{Act}

@@ -13,8 +13,8 @@ use Rattle.thing_ops.specs.declared.routing.RouteKind.TheVariants as route
 use Rattle.thing_ops.specs.Requests.{RequestSeen}
 use Rattle.thing_ops.specs.Routes.{route_of}
 use Rattle.thing_handler.specs.Turns.{HandlerCall}
-use Rattle.thing_core.specs.State.{State as ThingState, Emission, Invocation}
-use Rattle.thing_core.specs.Places.{place_of}
+use Rattle.thing_state.specs.State.{State as ThingState, Emission, Invocation}
+use Rattle.thing_state.specs.Places.{place_of}
 use Rattle.thing_core.specs.Thing.{Done, Acts, refuses, has_no_memory, performs}
 use Rattle.thing_core.proofs.DeterminedLaws.{determined}
 use Rattle.directory_requests.specs.declared.server.Entries.{Entries}

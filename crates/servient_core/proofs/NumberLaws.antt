@@ -12,11 +12,12 @@ use Rattle.thing_handler.specs.declared.handler.Answer.TheVariants as answer
 use Rattle.thing_handler.specs.Turns.{RunTurn, HandlerCall, turns_in, AreNumberedFrom, turn_in}
 use Rattle.thing_handler.proofs.TurnLaws.{numbered_then}
 use Rattle.thing_site.specs.Site.{Placed, Site}
-use Rattle.thing_core.specs.State.{State, Status, running, completed, Emission}
+use Rattle.thing_state.specs.State.{State, Status, running, completed, Emission}
 use Rattle.thing_site.specs.declared.place.ThingAct.{ThingAct}
 use Rattle.thing_site.specs.declared.place.ThingAct.TheVariants.{Describes as describes, ReadsAll as reads_all, WritesMany as writes_many, Reads as reads, Writes as writes, Invokes as invokes, Queries as queries, Cancels as cancels, ReadsEvent as reads_event, Waits as waits}
 use Rattle.thing_site.specs.Refusals.{Input}
-use Rattle.thing_core.specs.Thing.{Done, Called, no_number, no_memory, gives, failure_of, ReadsValue, with_value, ReadsEach, WritesEach, IfDone, SeesWritten, emissions_of_write, Stops, Calls, IsInvoked, IsQueried, Queries, IsCancelled, Cancels, PollsEvent, Performs, Acts, refuses, has_no_memory, performs, readable}
+use Rattle.thing_core.specs.Thing.{Done, ReadsValue, with_value, ReadsEach, WritesEach, IfDone, SeesWritten, emissions_of_write, Stops, IsInvoked, IsQueried, Queries, IsCancelled, Cancels, PollsEvent, Performs, Acts, refuses, has_no_memory, performs, readable}
+use Rattle.thing_state.specs.Calls.{Called, no_number, no_memory, gives, failure_of, Calls}
 use Rattle.thing_core.proofs.ReadLaws.{AfterValue}
 
 -- The turns are numbered on from those that the state has, and are counted.

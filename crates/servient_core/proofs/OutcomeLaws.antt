@@ -16,12 +16,13 @@ use Rattle.thing_ops.specs.Requests.{RequestSeen}
 use Rattle.thing_handler.specs.declared.handler.Answer.TheVariants as answer
 use Rattle.thing_handler.specs.Turns.{HandlerCall}
 use Rattle.thing_site.specs.Site.{Placed, Site}
-use Rattle.thing_core.specs.State.{State, Status, running, completed, Emission, status_text, last_of, version_of}
+use Rattle.thing_state.specs.State.{State, Status, running, completed, Emission, status_text, last_of, version_of}
 use Rattle.thing_site.specs.declared.place.ThingAct.{ThingAct}
 use Rattle.thing_site.specs.declared.place.ThingAct.TheVariants.{Describes as describes, ReadsAll as reads_all, WritesMany as writes_many, Reads as reads, Writes as writes, Invokes as invokes, Queries as queries, Cancels as cancels, ReadsEvent as reads_event, Waits as waits}
 use Rattle.thing_site.specs.Refusals.{Input, Refusal, nothing_there, verb_not_taken, answer_not_acceptable, format_not_taken, body_not_as_wanted, value_too_large, refused_by_schema, condition_failed, no_invocation_left, IsFirst}
 use Rattle.thing_core.specs.Refusals.{Asked, refusals, Stands, IsAnsweredWith}
-use Rattle.thing_core.specs.Thing.{Done, only, Called, no_number, no_memory, gives, failure_of, GivesValue, ReadsValue, ReadsEach, WritesEach, IfDone, SeesWritten, emissions_of_write, Stops, IsInvoked, place_of_invocation, IsQueried, Queries, IsCancelled, Cancels, event_outcome, outcome_of_read, read_outcome, readable, Performs, Acts, refuses, has_no_memory, performs}
+use Rattle.thing_core.specs.Thing.{Done, only, GivesValue, ReadsValue, ReadsEach, WritesEach, IfDone, SeesWritten, emissions_of_write, Stops, IsInvoked, place_of_invocation, IsQueried, Queries, IsCancelled, Cancels, event_outcome, outcome_of_read, read_outcome, readable, Performs, Acts, refuses, has_no_memory, performs}
+use Rattle.thing_state.specs.Calls.{Called, no_number, no_memory, gives, failure_of}
 use Rattle.thing_core.proofs.ReadLaws.{AfterValue}
 use Rattle.servient_core.specs.Keeping.{IsSendable}
 use Rattle.servient_core.proofs.ActionPaths.{IsShortPath, ShortIfInvoked, short_if_invoked}

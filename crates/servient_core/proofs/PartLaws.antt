@@ -8,8 +8,9 @@ use Rattle.coap_msg.specs.declared.endpoint.Endpoint.{Endpoint}
 use Rattle.thing_handler.specs.Handler.{Seen}
 use Rattle.thing_handler.specs.Turns.{HandlerCall, RackShows, turns_in}
 use Rattle.thing_site.specs.Site.{Site}
-use Rattle.thing_core.specs.State.{State as ThingState}
-use Rattle.thing_core.specs.Thing.{Move as ThingMove, Done, Acts}
+use Rattle.thing_state.specs.State.{State as ThingState}
+use Rattle.thing_state.specs.Calls.{Move as ThingMove}
+use Rattle.thing_core.specs.Thing.{Done, Acts}
 use Rattle.thing_site.specs.Fits.{Fits}
 use Rattle.thing_core.specs.Kept.{Kept}
 use Rattle.thing_core.specs.Performing.{MakesAct}

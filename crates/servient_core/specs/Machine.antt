@@ -14,9 +14,10 @@ use Rattle.thing_ops.specs.Requests.{RequestSeen}
 use Rattle.thing_ops.specs.Routes.{route_of}
 use Rattle.thing_handler.specs.Turns.{HandlerCall}
 use Rattle.thing_site.specs.Site.{Placed, Site as Things, events_of}
-use Rattle.thing_core.specs.State.{State as ThingState, Emission, last_of, start as no_request_yet}
-use Rattle.thing_core.specs.Thing.{Move as ThingMove, Done, Acts, PollsEvent}
-use Rattle.thing_core.specs.Places.{target_of}
+use Rattle.thing_state.specs.State.{State as ThingState, Emission, last_of, start as no_request_yet}
+use Rattle.thing_state.specs.Calls.{Move as ThingMove}
+use Rattle.thing_core.specs.Thing.{Done, Acts, PollsEvent}
+use Rattle.thing_state.specs.Places.{target_of}
 use Rattle.directory_requests.specs.Asked.{is_of_directory}
 use Rattle.directory_requests.specs.declared.server.Entries.{Entries}
 use Rattle.directory_requests.specs.Requests.{no_entries, DirectoryActs}

@@ -6,7 +6,7 @@ ghost use Rattle.servient_base.specs.Moves.{Refines};
 ghost use Rattle.thing_site.specs.Fits.{Fits};
 ghost use Rattle.servient_trace.specs.Trace.{outside};
 ghost use Rattle.servient_core.specs.Serving.{StandsFor};
-ghost use Rattle.thing_core.specs.Thing.{most_turns};
+ghost use Rattle.thing_state.specs.State.{most_turns};
 ghost use Rattle.servient_trace.specs.ShownSections.{ShowsInSections};
 ghost use Rattle.servient_core.specs.Sections.{ForgetsIfDue, ServesInSections};
 

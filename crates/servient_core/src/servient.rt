@@ -7,7 +7,7 @@ ghost use Rattle.wot_forms.specs.Segments.{is_plain_segment};
 ghost use Rattle.wot_terms.specs.Faults.{IsValid};
 ghost use Rattle.thing_site.specs.Site.{site_of, expose_faults};
 ghost use Rattle.thing_site.specs.Exposing.{kinds_of};
-ghost use Rattle.thing_core.specs.Thing.{most_turns};
+ghost use Rattle.thing_state.specs.State.{most_turns};
 ghost use Rattle.thing_site.specs.Fits.{Fits};
 ghost use Rattle.wot_registry.specs.Dates.{last_millisecond};
 ghost use Rattle.servient_outside.specs.Network.{byte_count, IsEvent};

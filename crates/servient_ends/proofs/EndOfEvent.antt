@@ -9,7 +9,7 @@ use Rattle.coap_observe.specs.Accounts.{one_if}
 use Rattle.coap_bind.specs.declared.server.Server.{Server}
 use Rattle.coap_bind.specs.Server.{SendsNext, with_emitted}
 use Rattle.coap_bind.specs.Writing.{notification}
-use Rattle.thing_core.specs.State.{State as ThingState, Emission as ThingEmission}
+use Rattle.thing_state.specs.State.{State as ThingState, Emission as ThingEmission}
 use Rattle.servient_trace.specs.Trace.{Sighting}
 use Rattle.servient_core.specs.Machine.{Site, State, SendsNotification, NothingIsDue, EndsEvent}
 use Rattle.servient_world.specs.World.{WorldState, WorldMove, emit, notify, Datagram, with_new_value, with_notification, notification_sent, PlaysAll}

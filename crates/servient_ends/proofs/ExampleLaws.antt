@@ -10,7 +10,7 @@ use Rattle.coap_msg.specs.Grammar.{CoapMessage, IsWellFormed, Spells, option_spe
 use Rattle.coap_exchange.specs.Table.{Table, at_moment as later, with_exchange}
 use Rattle.coap_observe.specs.Watching.{nobody, nothing}
 use Rattle.thing_ops.specs.declared.outcome.Outcome.TheVariants as outcome
-use Rattle.thing_core.specs.State.{State as ThingState}
+use Rattle.thing_state.specs.State.{State as ThingState}
 use Rattle.thing_core.specs.Thing.{only, Acts, refuses}
 use Rattle.coap_opts.specs.Reading.{asked as what_is_asked}
 use Rattle.coap_client.specs.declared.state.State.{State as ClientState}

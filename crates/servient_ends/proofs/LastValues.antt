@@ -4,7 +4,7 @@ use Rattle.std.specs.Prelude.{Option, Some, None, unwrap_or, ◌==◌, if◌then
 use Rattle.std.proofs.lemmas.Bool.Decides.{nat_tests}
 use Rattle.std.proofs.lemmas.List.{append-nil}
 use Rattle.thing_site.specs.Site.{Placed}
-use Rattle.thing_core.specs.State.{Emission as ThingEmission, LastValue, silent, last_of, renewed, last_after}
+use Rattle.thing_state.specs.State.{Emission as ThingEmission, LastValue, silent, last_of, renewed, last_after}
 use Rattle.servient_world.specs.World.{Emission, value_after, last_value}
 use Rattle.servient_ends.specs.Ends.{as_emission}
 

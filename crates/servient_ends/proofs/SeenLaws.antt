@@ -10,7 +10,7 @@ use Rattle.thing_ops.specs.Requests.{RequestSeen}
 use Rattle.thing_handler.specs.Turns.{HandlerCall}
 use Rattle.http_bind.specs.Streams.{HttpReply, Taken, asks, wants_continue, is_faulty, interrupts, oldest_for, oldest_late, IsDry, NoneIdle}
 use Rattle.thing_site.specs.Site.{Placed, events_of}
-use Rattle.thing_core.specs.State.{State as ThingState, last_of}
+use Rattle.thing_state.specs.State.{State as ThingState, last_of}
 use Rattle.thing_core.specs.Thing.{Done}
 use Rattle.servient_outside.specs.declared.net.What.{What}
 use Rattle.servient_outside.specs.declared.net.What.TheVariants as what

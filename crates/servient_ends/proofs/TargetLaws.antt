@@ -14,8 +14,8 @@ use Rattle.thing_site.specs.Site.{Placed, ExposedThing, Site, affordance_named, 
 use Rattle.thing_site.specs.Places.{affordance_in, thing_in, place_at, where_observable, target_at}
 use Rattle.thing_site.specs.declared.place.Resource.{Resource}
 use Rattle.thing_site.specs.declared.place.Resource.TheVariants.{Description as description, AllProperties as all_properties, Property as property, Observed as observed, Action as action, Invocation as invocation, Event as event, Subscribed as subscribed}
-use Rattle.thing_core.specs.State.{State as ThingState, Invocation, invocation_named, silent}
-use Rattle.thing_core.specs.Places.{where_stands, place_of, target_of}
+use Rattle.thing_state.specs.State.{State as ThingState, Invocation, invocation_named, silent}
+use Rattle.thing_state.specs.Places.{where_stands, place_of, target_of}
 use Rattle.thing_core.proofs.Handed.{came_of, made_of, named_has}
 use Rattle.thing_core.proofs.SlotLaws.{SiteHas}
 use Rattle.coap_opts.specs.Reading.{AskSeen}

@@ -12,11 +12,12 @@ use Rattle.thing_handler.specs.declared.handler.Answer.{Answer}
 use Rattle.thing_handler.specs.declared.handler.Answer.TheVariants as answer
 use Rattle.thing_handler.specs.Turns.{HandlerCall}
 use Rattle.thing_site.specs.Site.{Placed, Site}
-use Rattle.thing_core.specs.State.{Status, running, completed, Invocation, State, Emission, LastValue, last_after, renewed}
+use Rattle.thing_state.specs.State.{Status, running, completed, Invocation, State, Emission, LastValue, last_after, renewed, with_id_used, with_invocations}
 use Rattle.thing_site.specs.declared.place.ThingAct.{ThingAct}
 use Rattle.thing_site.specs.declared.place.ThingAct.TheVariants.{Describes as describes, ReadsAll as reads_all, WritesMany as writes_many, Reads as reads, Writes as writes, Invokes as invokes, Queries as queries, Cancels as cancels, ReadsEvent as reads_event, Waits as waits}
 use Rattle.thing_site.specs.Refusals.{Input}
-use Rattle.thing_core.specs.Thing.{Move, Done, Called, no_number, no_memory, gives, failure_of, only, Calls, ReadsValue, with_value, ReadsEach, Emits, SeesWritten, emissions_of_write, Stops, IfDone, WritesEach, IsInvoked, IsQueried, Queries, IsCancelled, Cancels, Performs, Acts, refuses, has_no_memory, performs, PollsEvent, readable, Decides, with_id_used, with_invocations, Completes}
+use Rattle.thing_state.specs.Calls.{Move, Called, no_number, no_memory, gives, failure_of, Calls}
+use Rattle.thing_core.specs.Thing.{Done, only, ReadsValue, with_value, ReadsEach, Emits, SeesWritten, emissions_of_write, Stops, IfDone, WritesEach, IsInvoked, IsQueried, Queries, IsCancelled, Cancels, Performs, Acts, refuses, has_no_memory, performs, PollsEvent, readable, Decides, Completes}
 use Rattle.thing_core.proofs.ReadLaws.{AfterValue}
 
 -- as many ids of invocations are used as turns were made, at most

@@ -7,7 +7,7 @@ use Rattle.coap_observe.specs.declared.notice.Notice.{Notice}
 use Rattle.coap_bind.specs.declared.server.Server.{Server}
 use Rattle.coap_bind.specs.Treating.{Acted}
 use Rattle.thing_site.specs.Site.{emitters_of}
-use Rattle.thing_core.specs.State.{State as ThingState, Emission as ThingEmission, LastValue}
+use Rattle.thing_state.specs.State.{State as ThingState, Emission as ThingEmission, LastValue}
 use Rattle.servient_outside.specs.declared.net.What.{What}
 use Rattle.servient_outside.specs.declared.net.What.TheVariants as what
 use Rattle.servient_trace.specs.Trace.{Sighting}

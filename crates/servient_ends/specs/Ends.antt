@@ -15,7 +15,7 @@ use Rattle.coap_bind.specs.Server.{Heard, ignored, answered_at_once, asked}
 use Rattle.coap_bind.specs.Treating.{Acted}
 use Rattle.http_bind.specs.Streams.{Taken, asks, wants_continue, is_faulty, interrupts, IsDry}
 use Rattle.thing_site.specs.Site.{Placed, events_of}
-use Rattle.thing_core.specs.State.{State as ThingState, Emission as ThingEmission}
+use Rattle.thing_state.specs.State.{State as ThingState, Emission as ThingEmission}
 use Rattle.servient_outside.specs.declared.net.What.{What}
 use Rattle.servient_outside.specs.declared.net.What.TheVariants as what
 use Rattle.servient_outside.specs.declared.net.EventWithBytes.{EventWithBytes}

@@ -4,7 +4,7 @@ use Rattle.std.specs.Prelude.{unwrap_or}
 use Rattle.std.proofs.lemmas.Option.{same_Some}
 use Rattle.servient_base.specs.Moves.{Then, Until}
 use Rattle.thing_handler.specs.declared.handler.Answer.{Answer}
-use Rattle.thing_core.specs.State.{State as ThingState, Emission, last_of}
+use Rattle.thing_state.specs.State.{State as ThingState, Emission, last_of}
 use Rattle.coap_observe.specs.declared.notice.Notice.{Notice}
 use Rattle.coap_bind.specs.declared.server.Server.{Server}
 use Rattle.coap_bind.specs.Server.{with_emitted, SendsNext}

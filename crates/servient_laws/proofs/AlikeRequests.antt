@@ -11,8 +11,9 @@ use Rattle.thing_handler.specs.declared.handler.Answer.{Answer}
 use Rattle.thing_handler.specs.declared.handler.Answer.TheVariants as answer
 use Rattle.thing_handler.specs.Turns.{HandlerCall, answered}
 use Rattle.thing_site.specs.Site.{Placed}
-use Rattle.thing_core.specs.State.{State as ThingState, Emission, last_after}
-use Rattle.thing_core.specs.Thing.{Done, Acts, Called, no_number, no_memory, gives, Calls, IsTaken, emission, IsPolled, PollsEvent}
+use Rattle.thing_state.specs.State.{State as ThingState, Emission, last_after}
+use Rattle.thing_core.specs.Thing.{Done, Acts, emission, IsPolled, PollsEvent}
+use Rattle.thing_state.specs.Calls.{Called, no_number, no_memory, gives, Calls, IsTaken}
 use Rattle.thing_core.specs.Determined.{AreAnsweredBy, HadMemory as WasAmple}
 use Rattle.thing_core.proofs.DeterminedLaws.{determined, answered_first, one_decision}
 use Rattle.directory_requests.specs.declared.server.Entries.{Entries}

@@ -9,7 +9,7 @@ use Rattle.thing_ops.specs.declared.outcome.Outcome.{Outcome}
 use Rattle.thing_ops.specs.declared.outcome.Outcome.TheVariants as outcome
 use Rattle.thing_handler.specs.declared.handler.Answer.{Answer}
 use Rattle.thing_site.specs.Site.{events_of}
-use Rattle.thing_core.specs.State.{State as ThingState}
+use Rattle.thing_state.specs.State.{State as ThingState}
 use Rattle.thing_core.specs.Thing.{Done}
 use Rattle.thing_core.specs.Determined.{HadMemory as WasAmple}
 use Rattle.coap_opts.specs.Reading.{AskSeen}

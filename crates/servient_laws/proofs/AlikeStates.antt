@@ -5,7 +5,7 @@ use Rattle.std.proofs.lemmas.List.Elements.{filter_map-append}
 use Rattle.servient_base.specs.Moves.{Becomes, Then, Passing, Each, Until, is_done, goes_on}
 use Rattle.thing_handler.specs.declared.handler.Answer.{Answer}
 use Rattle.thing_handler.specs.Turns.{HandlerCall}
-use Rattle.thing_core.specs.State.{State as ThingState}
+use Rattle.thing_state.specs.State.{State as ThingState}
 use Rattle.thing_core.specs.Determined.{AreAnsweredBy}
 use Rattle.thing_core.proofs.DeterminedLaws.{answered_first, answered_rest}
 use Rattle.directory_requests.specs.declared.server.Entries.{Entries}

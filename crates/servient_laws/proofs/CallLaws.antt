@@ -21,10 +21,11 @@ use Rattle.thing_site.specs.Site.{Placed, ExposedThing, Site, affordance_named, 
 use Rattle.thing_site.specs.declared.place.ThingAct.{ThingAct}
 use Rattle.thing_site.specs.declared.place.ThingAct.TheVariants.{Describes as describes, ReadsAll as reads_all, WritesMany as writes_many, Reads as reads, Writes as writes, Invokes as invokes, Queries as queries, Cancels as cancels, ReadsEvent as reads_event, Waits as waits}
 use Rattle.thing_site.specs.Refusals.{Input, inputs_of, only_input, member_inputs, object_inputs, invoke_inputs, no_inputs, written_property, unless_read_only, longest_value, Holding, IsLong, IsRefusedBySchema, SomeInput}
-use Rattle.thing_core.specs.State.{State, Emission, Status, running, completed}
+use Rattle.thing_state.specs.State.{State, Emission, Status, running, completed}
 use Rattle.thing_core.specs.Refusals.{Asked, act_asked}
 use Rattle.thing_core.specs.Performing.{affordances_of_act}
-use Rattle.thing_core.specs.Thing.{Done, Called, no_number, no_memory, gives, failure_of, Calls, ReadsValue, readable, is_readable, ReadsEach, SeesWritten, emissions_of_write, Stops, IfDone, WritesEach, IsHandedIn, IsInvoked, IsQueried, Queries, IsCancelled, Cancels, Performs, Acts, refuses, has_no_memory, performs, PollsEvent}
+use Rattle.thing_core.specs.Thing.{Done, ReadsValue, readable, is_readable, ReadsEach, SeesWritten, emissions_of_write, Stops, IfDone, WritesEach, IsHandedIn, IsInvoked, IsQueried, Queries, IsCancelled, Cancels, Performs, Acts, refuses, has_no_memory, performs, PollsEvent}
+use Rattle.thing_state.specs.Calls.{Called, no_number, no_memory, gives, failure_of, Calls}
 use Rattle.thing_core.proofs.ReadLaws.{AfterValue}
 use Rattle.thing_core.proofs.Handed.{came_of, made_of, InputsHave, handed_have}
 use Rattle.thing_core.proofs.SlotLaws.{asked_have}

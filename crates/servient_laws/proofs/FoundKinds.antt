@@ -19,8 +19,8 @@ use Rattle.thing_site.specs.declared.place.Resource.{Resource}
 use Rattle.thing_site.specs.declared.place.ThingAct.{ThingAct}
 use Rattle.thing_site.specs.declared.place.Resource.TheVariants.{Description as description, AllProperties as all_properties, Property as property, Observed as observed, Action as action, Invocation as invocation, Event as event, Subscribed as subscribed}
 use Rattle.thing_site.specs.declared.place.ThingAct.TheVariants.{Reads as reads, Writes as writes, Invokes as invokes, Queries as queries, Cancels as cancels}
-use Rattle.thing_core.specs.Places.{where_stands}
-use Rattle.thing_core.specs.State.{Invocation, invocation_named}
+use Rattle.thing_state.specs.Places.{where_stands}
+use Rattle.thing_state.specs.State.{Invocation, invocation_named}
 use Rattle.thing_core.specs.Refusals.{Asked, act_asked, place_asked}
 use Rattle.thing_core.proofs.Handed.{came_of, made_of}
 use Rattle.thing_core.proofs.SlotLaws.{SiteHas}

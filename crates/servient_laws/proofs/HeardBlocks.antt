@@ -24,7 +24,7 @@ use Rattle.coap_bind.specs.Writing.{Reply, observed, ReplyHead, head_of, head_in
 use Rattle.coap_bind.proofs.HistoryLaws.{not_replied, not_duplicate}
 use Rattle.thing_ops.specs.declared.outcome.Outcome.{Outcome}
 use Rattle.thing_handler.specs.Turns.{HandlerCall}
-use Rattle.thing_core.specs.State.{State as ThingState}
+use Rattle.thing_state.specs.State.{State as ThingState}
 use Rattle.thing_core.specs.Thing.{Done, Acts}
 use Rattle.servient_trace.specs.Trace.{Sighting, call_in, calls_in}
 use Rattle.servient_core.specs.Machine.{Site, State, AnswersDatagram}

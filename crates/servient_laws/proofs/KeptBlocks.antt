@@ -11,7 +11,7 @@ use Rattle.coap_bind.specs.Server.{with_next_id, with_notification_sent, with_ob
 use Rattle.http_bind.specs.Streams.{HttpReply, Streams, Taken, asks, wants_continue, is_faulty, interrupts, oldest_for, oldest_late, IsDry, NoneIdle}
 use Rattle.thing_ops.specs.Requests.{RequestSeen}
 use Rattle.thing_core.specs.Thing.{Done}
-use Rattle.thing_core.specs.State.{State as ThingState, Emission, last_of}
+use Rattle.thing_state.specs.State.{State as ThingState, Emission, last_of}
 use Rattle.thing_site.specs.Site.{Placed, events_of}
 use Rattle.servient_outside.specs.declared.net.What.{What}
 use Rattle.servient_outside.specs.declared.net.What.TheVariants as what

@@ -18,9 +18,10 @@ use Rattle.thing_site.specs.Site.{Placed}
 use Rattle.thing_site.specs.declared.place.ThingAct.{ThingAct}
 use Rattle.thing_site.specs.declared.place.ThingAct.TheVariants.{Describes as describes, ReadsAll as reads_all, WritesMany as writes_many, Reads as reads, Writes as writes, Invokes as invokes, Queries as queries, Cancels as cancels, ReadsEvent as reads_event, Waits as waits}
 use Rattle.thing_site.specs.Refusals.{Input}
-use Rattle.thing_core.specs.State.{State, Emission, Status, running, completed, last_of, version_of}
+use Rattle.thing_state.specs.State.{State, Emission, Status, running, completed, last_of, version_of}
 use Rattle.thing_core.specs.Refusals.{Asked, refusals, IsRefusedBy}
-use Rattle.thing_core.specs.Thing.{Done, only, Called, no_number, no_memory, gives, failure_of, Calls, GivesValue, ReadsValue, readable, ReadsEach, SeesWritten, emissions_of_write, Stops, IfDone, WritesEach, IsInvoked, IsQueried, Queries, IsCancelled, Cancels, event_outcome, read_outcome, Performs, refuses, has_no_memory, performs}
+use Rattle.thing_core.specs.Thing.{Done, only, GivesValue, ReadsValue, readable, ReadsEach, SeesWritten, emissions_of_write, Stops, IfDone, WritesEach, IsInvoked, IsQueried, Queries, IsCancelled, Cancels, event_outcome, read_outcome, Performs, refuses, has_no_memory, performs}
+use Rattle.thing_state.specs.Calls.{Called, no_number, no_memory, gives, failure_of, Calls}
 use Rattle.thing_core.proofs.ReadLaws.{AfterValue}
 use Rattle.servient_laws.specs.Memory.{EndsInMiss, MemoryIsSeen}
 

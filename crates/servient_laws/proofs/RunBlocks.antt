@@ -23,7 +23,7 @@ use Rattle.coap_bind.specs.declared.server.Server.{Server}
 use Rattle.coap_bind.specs.Server.{Heard, ignored, answered_at_once, asked, asks_links, is_request, observing_in, block_arrival, pending_of, pending_joined, with_whole_body}
 use Rattle.thing_ops.specs.declared.outcome.Outcome.{Outcome}
 use Rattle.thing_ops.specs.Outcomes.{payload_of}
-use Rattle.thing_core.specs.State.{State as ThingState}
+use Rattle.thing_state.specs.State.{State as ThingState}
 use Rattle.thing_core.specs.Thing.{Done, Acts}
 use Rattle.servient_outside.specs.declared.net.EventWithBytes.{EventWithBytes}
 use Rattle.servient_outside.specs.Network.{heard}

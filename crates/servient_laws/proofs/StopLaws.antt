@@ -10,8 +10,9 @@ use Rattle.thing_ops.specs.Requests.{RequestSeen}
 use Rattle.thing_handler.specs.declared.handler.CallKind.TheVariants as call
 use Rattle.thing_handler.specs.Turns.{HandlerCall, RunTurn, missed, turns_in, miss_in, misses_in, times}
 use Rattle.thing_site.specs.Site.{Placed, events_of}
-use Rattle.thing_core.specs.State.{State as ThingState, Emission}
-use Rattle.thing_core.specs.Thing.{no_number, no_memory, gives, Done, PollsEvent}
+use Rattle.thing_state.specs.State.{State as ThingState, Emission}
+use Rattle.thing_state.specs.Calls.{no_number, no_memory, gives}
+use Rattle.thing_core.specs.Thing.{Done, PollsEvent}
 use Rattle.coap_bind.specs.Server.{Heard, ignored, answered_at_once, asked}
 use Rattle.http_bind.specs.Streams.{Taken, asks, wants_continue, is_faulty, interrupts, IsDry}
 use Rattle.servient_outside.specs.declared.net.What.{What}

@@ -4,7 +4,7 @@ use Rattle.thing_ops.specs.declared.outcome.Outcome.TheVariants as outcome
 use Rattle.thing_ops.specs.Requests.{RequestSeen}
 use Rattle.thing_handler.specs.Turns.{HandlerCall, missed}
 use Rattle.thing_site.specs.Site.{Site}
-use Rattle.thing_core.specs.State.{State}
+use Rattle.thing_state.specs.State.{State}
 use Rattle.thing_core.specs.Thing.{Done, Acts}
 
 -- nothing was seen of it, and the Things are as they were

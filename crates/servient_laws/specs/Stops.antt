@@ -8,8 +8,9 @@ use Rattle.thing_ops.specs.Requests.{RequestSeen}
 use Rattle.thing_handler.specs.Handler.{Seen}
 use Rattle.thing_handler.specs.Turns.{HandlerCall, missed, turns_in}
 use Rattle.thing_site.specs.Site.{Placed, events_of}
-use Rattle.thing_core.specs.State.{State as ThingState, Emission}
-use Rattle.thing_core.specs.Thing.{Move, Done, most_turns, Acts, PollsEvent}
+use Rattle.thing_state.specs.State.{State as ThingState, Emission, most_turns}
+use Rattle.thing_state.specs.Calls.{Move}
+use Rattle.thing_core.specs.Thing.{Done, Acts, PollsEvent}
 use Rattle.servient_outside.specs.declared.net.What.{What}
 use Rattle.servient_outside.specs.declared.net.What.TheVariants as what
 use Rattle.servient_outside.specs.declared.net.EventWithBytes.{EventWithBytes}

@@ -8,7 +8,7 @@ use Rattle.coap_msg.specs.declared.endpoint.Endpoint.{Endpoint}
 use Rattle.coap_msg.specs.Grammar.{CoapMessage, spelling, type_bits}
 use Rattle.coap_client.specs.declared.outstanding.Outstanding.{Outstanding}
 use Rattle.coap_observe.specs.declared.notice.Notice.{Notice}
-use Rattle.thing_core.specs.State.{State as ThingState}
+use Rattle.thing_state.specs.State.{State as ThingState}
 use Rattle.servient_core.specs.Machine.{notification_bytes}
 use Rattle.servient_world.specs.World.{WorldState, Datagram, Purpose, AskEnd as AskEndInWorld, End as EndInWorld, server_place, sent_now, latest}
 use Rattle.servient_ends.specs.Ends.{notification_of}

@@ -18,12 +18,13 @@ use Rattle.thing_handler.specs.declared.handler.CallKind.TheVariants as call
 use Rattle.thing_handler.specs.declared.handler.Answer.TheVariants as answer
 use Rattle.thing_handler.specs.Turns.{HandlerCall, answered, missed}
 use Rattle.thing_site.specs.Site.{Placed, Site, those_of, of_kind}
-use Rattle.thing_core.specs.State.{Status, running, completed, State, Emission, last_of, version_of}
+use Rattle.thing_state.specs.State.{Status, running, completed, State, Emission, last_of, version_of}
 use Rattle.thing_site.specs.declared.place.ThingAct.{ThingAct}
 use Rattle.thing_site.specs.declared.place.ThingAct.TheVariants.{Describes as describes, ReadsAll as reads_all, WritesMany as writes_many, Reads as reads, Writes as writes, Invokes as invokes, Queries as queries, Cancels as cancels, ReadsEvent as reads_event, Waits as waits}
 use Rattle.thing_site.specs.Refusals.{Refusal, Input, inputs_of, IsFirst, IsNone}
 use Rattle.thing_core.specs.Refusals.{Asked, refusals, Stands, IsAnsweredWith}
-use Rattle.thing_core.specs.Thing.{Move, Done, outcome_of_read, Called, no_number, no_memory, gives, failure_of, only, Calls, GivesValue, ReadsValue, with_value, is_readable, readable, ReadsEach, SeesWritten, emissions_of_write, Stops, IfDone, WritesEach, IsInvoked, IsQueried, Queries, IsCancelled, Cancels, event_outcome, Performs, refuses, has_no_memory, performs}
+use Rattle.thing_state.specs.Calls.{Move, Called, no_number, no_memory, gives, failure_of, Calls}
+use Rattle.thing_core.specs.Thing.{Done, outcome_of_read, only, GivesValue, ReadsValue, with_value, is_readable, readable, ReadsEach, SeesWritten, emissions_of_write, Stops, IfDone, WritesEach, IsInvoked, IsQueried, Queries, IsCancelled, Cancels, event_outcome, Performs, refuses, has_no_memory, performs}
 use Rattle.thing_core.specs.Performing.{affordances_of_act}
 use Rattle.thing_core.specs.Completeness.{IsInKind, AnswersInKind, IsContent, IsRead, IsInvocation, IsSuccess, Succeeds, succeeds, lacks_memory, lacks_numbers, IsComplete}
 use Rattle.thing_core.proofs.PlacedLists.{filter_has}

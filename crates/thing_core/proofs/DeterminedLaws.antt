@@ -24,14 +24,15 @@ use Rattle.thing_handler.specs.declared.handler.Answer.{Answer}
 use Rattle.thing_handler.specs.declared.handler.Answer.TheVariants as answer
 use Rattle.thing_handler.specs.Turns.{HandlerCall, answered, missed}
 use Rattle.thing_site.specs.Site.{Placed, Site}
-use Rattle.thing_core.specs.State.{Status, running, completed, Invocation, State, Emission, version_of}
+use Rattle.thing_state.specs.State.{Status, running, completed, Invocation, State, Emission, version_of}
 use Rattle.thing_site.specs.Places.{flags_of}
 use Rattle.thing_site.specs.declared.place.Resource.{Resource}
 use Rattle.thing_site.specs.declared.place.ThingAct.{ThingAct}
 use Rattle.thing_site.specs.declared.place.ThingAct.TheVariants.{Describes as describes, ReadsAll as reads_all, WritesMany as writes_many, Reads as reads, Writes as writes, Invokes as invokes, Queries as queries, Cancels as cancels, ReadsEvent as reads_event, Waits as waits}
 use Rattle.thing_site.specs.Refusals.{Refusal, nothing_there, verb_not_taken, answer_not_acceptable, format_not_taken, body_not_as_wanted, value_too_large, refused_by_schema, condition_failed, no_invocation_left, Input, Holding, IsFirst, inputs_of}
 use Rattle.thing_core.specs.Refusals.{Asked, place_asked, refusals, Stands, IsAnsweredWith, NoneStands}
-use Rattle.thing_core.specs.Thing.{Move, Done, outcome_of_read, Called, no_number, no_memory, gives, failure_of, Decides, IsTaken, only, Calls, GivesValue, ReadsValue, with_value, Reads, readable, ReadsEach, SeesWritten, emissions_of_write, Stops, IfDone, WritesEach, IsHandedIn, IsInvoked, Invokes, IsQueried, Queries, IsCancelled, Cancels, OnInvocation, Answers, Performs, Acts, refuses, has_no_memory, performs}
+use Rattle.thing_state.specs.Calls.{Move, Called, no_number, no_memory, gives, failure_of, IsTaken, Calls}
+use Rattle.thing_core.specs.Thing.{Done, outcome_of_read, Decides, only, GivesValue, ReadsValue, with_value, Reads, readable, ReadsEach, SeesWritten, emissions_of_write, Stops, IfDone, WritesEach, IsHandedIn, IsInvoked, Invokes, IsQueried, Queries, IsCancelled, Cancels, OnInvocation, Answers, Performs, Acts, refuses, has_no_memory, performs}
 use Rattle.thing_core.specs.Determined.{AreAnsweredBy, HadMemory, IsDetermined}
 use Rattle.thing_core.proofs.ReadLaws.{AfterValue}
 use Rattle.thing_core.proofs.CompleteLaws.{none_is_first}

@@ -11,11 +11,12 @@ use Rattle.thing_handler.specs.Handler.{Seen}
 use Rattle.thing_handler.specs.Turns.{RackShows}
 use Rattle.thing_site.specs.Refusals.{Input}
 use Rattle.thing_site.specs.Site.{Placed}
-use Rattle.thing_core.specs.State.{Status, running, completed, Invocation, State, invocation_named, is_running, without_invocation, status_text}
-use Rattle.thing_core.specs.Course.{Course}
-use Rattle.thing_core.specs.Thing.{Called, no_number, no_memory, gives, only, place_of_invocation, IsHandedIn, IsInvoked, Invokes, IsQueried, Queries, IsCancelled, Cancels, OnInvocation, with_invocations}
+use Rattle.thing_state.specs.State.{Status, running, completed, Invocation, State, invocation_named, is_running, without_invocation, status_text, with_invocations}
+use Rattle.thing_state.specs.Course.{Course}
+use Rattle.thing_state.specs.Calls.{Called, no_number, no_memory, gives, IsUnanswered, MakesCall}
+use Rattle.thing_core.specs.Thing.{only, place_of_invocation, IsHandedIn, IsInvoked, Invokes, IsQueried, Queries, IsCancelled, Cancels, OnInvocation}
 use Rattle.thing_handler.specs.declared.handler.Answer.{Answer}
-use Rattle.thing_core.specs.Performing.{IsUnanswered, MakesCall, MakesDone, SettlesInvocation}
+use Rattle.thing_core.specs.Performing.{MakesDone, SettlesInvocation}
 use Rattle.thing_core.proofs.MoveLaws.{call_ends, done_alone, made_unseen}
 
 -- an action is invoked by one call

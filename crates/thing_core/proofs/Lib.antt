@@ -1,10 +1,7 @@
 pub mod PlacedLists
 pub mod ThingLaws
-pub mod InvocationLists
-pub mod VersionLists
 pub mod VersionRuns
 pub mod VersionLaws
-mod IdLaws
 pub mod MoveLaws
 pub mod ReadLaws
 pub mod ReadLoop

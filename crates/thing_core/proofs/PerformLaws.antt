@@ -11,8 +11,8 @@ use Rattle.thing_handler.specs.Turns.{HandlerCall, RackShows}
 use Rattle.thing_handler.proofs.RackLaws.{rack_shows_in_order}
 use Rattle.wot_terms.specs.declared.kind.Kind.TheVariants as kind
 use Rattle.thing_site.specs.Site.{Placed, Site, those_of, events_of, is_emitter, is_kind, of_kind, emitters_of, emitters_of_thing}
-use Rattle.thing_core.specs.Course.{Course}
-use Rattle.thing_core.specs.State.{Emission}
+use Rattle.thing_state.specs.Course.{Course}
+use Rattle.thing_state.specs.State.{Emission}
 use Rattle.thing_site.specs.declared.place.ThingAct.{ThingAct}
 use Rattle.thing_site.specs.Refusals.{Input, inputs_of}
 use Rattle.thing_core.specs.Refusals.{act_asked, refusals, IsRefusedBy, NoneStands}

@@ -10,10 +10,11 @@ use Rattle.thing_handler.specs.Handler.{Seen}
 use Rattle.thing_handler.specs.Turns.{HandlerCall}
 use Rattle.thing_handler.proofs.RackLaws.{rack_shows_in_order}
 use Rattle.thing_site.specs.Site.{Placed}
-use Rattle.thing_core.specs.State.{State, Emission, last_after}
-use Rattle.thing_core.specs.Course.{Course}
-use Rattle.thing_core.specs.Thing.{Called, no_number, no_memory, gives, IsTaken, emission, IsPolled, PollsEach}
-use Rattle.thing_core.specs.Performing.{IsUnanswered, MakesCall, PollsSome, has_fired}
+use Rattle.thing_state.specs.State.{State, Emission, last_after}
+use Rattle.thing_state.specs.Course.{Course}
+use Rattle.thing_state.specs.Calls.{Called, no_number, no_memory, gives, IsTaken, IsUnanswered, MakesCall, has_fired}
+use Rattle.thing_core.specs.Thing.{emission, IsPolled, PollsEach}
+use Rattle.thing_core.specs.Performing.{PollsSome}
 use Rattle.thing_core.proofs.WriteLoop.{targets_then}
 
 -- ---- what an answer emits

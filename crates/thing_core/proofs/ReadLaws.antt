@@ -16,10 +16,11 @@ use Rattle.thing_handler.specs.declared.handler.Answer.TheVariants as answer
 use Rattle.thing_handler.specs.Handler.{Seen}
 use Rattle.thing_handler.specs.Turns.{RackShows}
 use Rattle.thing_site.specs.Site.{Placed}
-use Rattle.thing_core.specs.State.{version_of}
-use Rattle.thing_core.specs.Course.{Course}
-use Rattle.thing_core.specs.Thing.{Move, Done, Called, no_number, no_memory, gives, only, IsTaken, GivesValue, outcome_of_read, with_value, Reads, ReadsEach}
-use Rattle.thing_core.specs.Performing.{IsUnanswered, IsValueOf, MakesCall, MakesDone, OrMemory, Leads, open_object, with_member}
+use Rattle.thing_state.specs.State.{version_of}
+use Rattle.thing_state.specs.Course.{Course}
+use Rattle.thing_state.specs.Calls.{Move, Called, no_number, no_memory, gives, IsTaken, IsUnanswered, MakesCall}
+use Rattle.thing_core.specs.Thing.{Done, only, GivesValue, outcome_of_read, with_value, Reads, ReadsEach}
+use Rattle.thing_core.specs.Performing.{IsValueOf, MakesDone, OrMemory, Leads, open_object, with_member}
 use Rattle.thing_core.proofs.MoveLaws.{done_alone, or_memory, leads_value, leads_end, made_unseen}
 
 -- a value is taken, or it isn't

@@ -6,7 +6,7 @@ use Rattle.thing_ops.specs.declared.outcome.Outcome.{Outcome}
 use Rattle.thing_ops.specs.declared.outcome.Outcome.TheVariants as outcome
 use Rattle.thing_handler.specs.Handler.{Seen}
 use Rattle.thing_site.specs.Site.{Placed}
-use Rattle.thing_core.specs.Course.{Course}
+use Rattle.thing_state.specs.Course.{Course}
 use Rattle.thing_core.specs.Thing.{only, ReadsEach}
 use Rattle.thing_core.specs.Performing.{Leads, MakesDone, ReadsOne, open_object, room_of_all}
 use Rattle.thing_core.proofs.MoveLaws.{done_alone, leads_none, leads_then, leads_end, made_unseen}

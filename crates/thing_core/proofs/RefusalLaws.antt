@@ -17,8 +17,8 @@ use Rattle.thing_site.specs.declared.place.ThingAct.TheVariants as act
 use Rattle.thing_site.specs.Site.{Placed}
 use Rattle.thing_site.specs.Refusals.{Refusal, condition_failed, no_invocation_left, refusals_by_request, Holding, StandsByRequest, IsAnswer, IsFirst, IsNone}
 use Rattle.thing_site.specs.HandedIn.{IsRefusedByRequest, IsUnrefused}
-use Rattle.thing_core.specs.State.{State, Invocation, most_invocations, running_count}
-use Rattle.thing_core.specs.Places.{place_of}
+use Rattle.thing_state.specs.State.{State, Invocation, most_invocations, running_count}
+use Rattle.thing_state.specs.Places.{place_of}
 use Rattle.thing_core.specs.Refusals.{Asked, act_asked, place_asked, refusals, refusals_of_acts, HasFailedCondition, HasNoInvocationLeft, IsRefusedBy, NoneStands, StandsAgainst}
 use Rattle.thing_core.specs.Performing.{IsActRefused, IsFree, IsRefusedByState}
 

@@ -7,12 +7,13 @@ use Rattle.thing_handler.specs.Handler.{Seen}
 use Rattle.thing_handler.specs.Turns.{HandlerCall, RackShows}
 use Rattle.thing_site.specs.Site.{Placed, ExposedThing, Site, is_kind, events_of}
 use Rattle.thing_core.specs.declared.polling.Round.{Round}
-use Rattle.thing_core.specs.State.{State, Emission}
-use Rattle.thing_core.specs.Course.{Course}
+use Rattle.thing_state.specs.State.{State, Emission}
+use Rattle.thing_state.specs.Course.{Course}
 use Rattle.thing_core.specs.Thing.{PollsEvent}
 use Rattle.thing_core.specs.Performing.{AllStand, PollsSome}
 use Rattle.thing_core.specs.Rounds.{events_from, events_left, MakesPoll, PollsNext}
-use Rattle.thing_core.proofs.PlacedLists.{events_among, events_more, placed_more, stands_rest}
+use Rattle.thing_core.proofs.PlacedLists.{events_among, events_more, stands_rest}
+use Rattle.thing_state.proofs.PlacedLists.{placed_more}
 use Rattle.thing_core.proofs.LastLaws.{polls_keep}
 
 -- ---- a Thing and those behind it

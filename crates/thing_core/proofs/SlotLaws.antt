@@ -17,13 +17,13 @@ use Rattle.thing_ops.specs.declared.verb.Verb.TheVariants as verb
 use Rattle.thing_handler.specs.Handler.{Seen}
 use Rattle.thing_site.specs.Refusals.{Input}
 use Rattle.thing_site.specs.Site.{Placed, ExposedThing, Site, affordance_named, thing_named, events_of, those_of}
-use Rattle.thing_core.specs.State.{State, Invocation, invocation_named, running_count, most_invocations}
+use Rattle.thing_state.specs.State.{State, Invocation, invocation_named, running_count, most_invocations}
 use Rattle.thing_site.specs.Places.{thing_in, affordance_in, place_at, where_observable, act_at, act_of, flags_of, is_listed}
 use Rattle.thing_site.specs.declared.place.Resource.{Resource}
 use Rattle.thing_site.specs.declared.place.ThingAct.{ThingAct}
 use Rattle.thing_site.specs.declared.place.Resource.TheVariants.{Description as description, AllProperties as all_properties, Property as property, Observed as observed, Action as action, Invocation as invocation, Event as event, Subscribed as subscribed}
 use Rattle.thing_site.specs.declared.place.ThingAct.TheVariants.{Invokes as invokes, Queries as queries, Cancels as cancels}
-use Rattle.thing_core.specs.Places.{where_stands}
+use Rattle.thing_state.specs.Places.{where_stands}
 use Rattle.thing_site.specs.Refusals.{Input, inputs_of, longest_value, IsLong, SomeInput, Holding}
 use Rattle.thing_core.specs.Refusals.{Asked, act_asked, place_asked, refusals, HasNoInvocationLeft, NoneStands}
 use Rattle.thing_site.specs.Fits.{FitsSlot, Fits}

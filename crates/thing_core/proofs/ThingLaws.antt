@@ -8,7 +8,7 @@ use Rattle.thing_ops.specs.Requests.{RequestSeen}
 use Rattle.thing_handler.specs.Handler.{Seen}
 use Rattle.thing_handler.specs.Turns.{RunTurn, HandlerCall, GrewBy}
 use Rattle.thing_site.specs.Site.{Placed, Site}
-use Rattle.thing_core.specs.State.{State}
+use Rattle.thing_state.specs.State.{State}
 use Rattle.thing_site.specs.Refusals.{refused_by_schema}
 use Rattle.thing_core.specs.Refusals.{Stands}
 use Rattle.thing_core.specs.Thing.{Acts, Done, refuses, has_no_memory, performs}

@@ -4,7 +4,7 @@ use Rattle.std.proofs.lemmas.List.Elements.{filter_map-append}
 use Rattle.servient_base.specs.Moves.{Each}
 use Rattle.thing_handler.specs.Turns.{HandlerCall}
 use Rattle.thing_site.specs.Site.{Placed, Site, events_of}
-use Rattle.thing_core.specs.State.{State, Emission}
+use Rattle.thing_state.specs.State.{State, Emission}
 use Rattle.thing_core.specs.Thing.{PollsEach}
 use Rattle.thing_core.specs.Ticks.{TickSeen, calls, hands_out, call_in, emission_in, calls_in, emissions_in, PollsAndHandsOut, IsSameInTurn}
 

@@ -23,12 +23,13 @@ use Rattle.thing_site.specs.Site.{Placed, Site}
 use Rattle.thing_site.specs.declared.place.ThingAct.{ThingAct}
 use Rattle.thing_site.specs.declared.place.ThingAct.TheVariants.{Reads as reads, Writes as writes}
 use Rattle.thing_site.specs.Refusals.{Refusal, nothing_there, verb_not_taken, answer_not_acceptable, format_not_taken, body_not_as_wanted, value_too_large, refused_by_schema, condition_failed, no_invocation_left, Holding, IsFirst}
-use Rattle.thing_core.specs.State.{State, Version, is_last_seen, after_text, versions_after, version_of, start, unseen, properties_of}
+use Rattle.thing_state.specs.State.{State, Version, is_last_seen, after_text, versions_after, version_of, start, unseen, properties_of}
 use Rattle.thing_core.specs.Refusals.{Asked, act_asked, refusals, IsAnsweredWith, HasFailedCondition, Stands}
-use Rattle.thing_core.specs.Thing.{Done, Called, no_number, no_memory, gives, failure_of, only, Calls, GivesValue, ReadsValue, Reads, outcome_of_read, read_outcome, Acts, refuses, has_no_memory, performs, Performs}
+use Rattle.thing_core.specs.Thing.{Done, only, GivesValue, ReadsValue, Reads, outcome_of_read, read_outcome, Acts, refuses, has_no_memory, performs, Performs}
+use Rattle.thing_state.specs.Calls.{Called, no_number, no_memory, gives, failure_of, Calls}
 use Rattle.thing_core.specs.Runs.{version_in, after_texts, SeesTexts, VersionsAreFew, SameTagSameText, TagsAreSeen, NoWriteIsLost, PropertiesHaveVersions}
 use Rattle.thing_core.proofs.InvokeLaws.{some_of}
-use Rattle.thing_core.proofs.VersionLists.{unseen_version}
+use Rattle.thing_state.proofs.VersionLists.{unseen_version}
 use Rattle.thing_core.proofs.VersionRuns.{IsWithin, Grows, then_grows, acts_grow, deeds_grow, texts_make_versions}
 
 -- ---- one version

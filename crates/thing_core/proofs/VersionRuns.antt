@@ -12,14 +12,15 @@ use Rattle.thing_handler.specs.declared.handler.Answer.{Answer}
 use Rattle.thing_handler.specs.declared.handler.Answer.TheVariants as answer
 use Rattle.thing_handler.specs.Turns.{HandlerCall}
 use Rattle.thing_site.specs.Site.{Placed, Site}
-use Rattle.thing_core.specs.State.{Status, running, completed, State, Emission, Version, is_last_seen, after_text, versions_after, version_of}
+use Rattle.thing_state.specs.State.{Status, running, completed, State, Emission, Version, is_last_seen, after_text, versions_after, version_of, most_turns}
 use Rattle.thing_site.specs.declared.place.ThingAct.{ThingAct}
 use Rattle.thing_site.specs.declared.place.ThingAct.TheVariants.{Describes as describes, ReadsAll as reads_all, WritesMany as writes_many, Reads as reads, Writes as writes, Invokes as invokes, Queries as queries, Cancels as cancels, ReadsEvent as reads_event, Waits as waits}
 use Rattle.thing_site.specs.Refusals.{Input}
-use Rattle.thing_core.specs.Thing.{Done, Called, no_number, no_memory, gives, failure_of, most_turns, Calls, GivesValue, ReadsValue, with_value, ReadsEach, SeesWritten, emissions_of_write, Stops, IfDone, WritesEach, IsInvoked, IsQueried, Queries, IsCancelled, Cancels, Performs, Acts, refuses, has_no_memory, performs, PollsEach}
+use Rattle.thing_core.specs.Thing.{Done, GivesValue, ReadsValue, with_value, ReadsEach, SeesWritten, emissions_of_write, Stops, IfDone, WritesEach, IsInvoked, IsQueried, Queries, IsCancelled, Cancels, Performs, Acts, refuses, has_no_memory, performs, PollsEach}
+use Rattle.thing_state.specs.Calls.{Called, no_number, no_memory, gives, failure_of, Calls}
 use Rattle.thing_core.specs.Runs.{Deed, asks, polls, DoesAll, version_in, after_texts, changes, SeesTexts, IsLater}
 use Rattle.thing_core.proofs.ReadLaws.{AfterValue}
-use Rattle.thing_core.proofs.VersionLists.{seen_within}
+use Rattle.thing_state.proofs.VersionLists.{seen_within}
 
 -- ---- texts that are seen
 

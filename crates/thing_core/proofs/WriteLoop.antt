@@ -12,11 +12,12 @@ use Rattle.thing_handler.specs.declared.handler.CallKind.TheVariants as call
 use Rattle.thing_handler.specs.declared.handler.Answer.TheVariants as answer
 use Rattle.thing_handler.specs.Handler.{Seen}
 use Rattle.thing_handler.specs.Turns.{HandlerCall, RackShows}
-use Rattle.thing_core.specs.State.{State, Emission, last_after, versions_after}
-use Rattle.thing_core.specs.Course.{Course}
+use Rattle.thing_state.specs.State.{State, Emission, last_after, versions_after}
+use Rattle.thing_state.specs.Course.{Course}
 use Rattle.thing_site.specs.Refusals.{Input}
-use Rattle.thing_core.specs.Thing.{Move, Done, Called, no_number, no_memory, gives, failure_of, SeesWritten, emissions_of_write, IfDone, Stops, WritesEach}
-use Rattle.thing_core.specs.Performing.{IsUnanswered, Leads, MakesCall, MakesDone, OrMemory, WritesOne, is_done}
+use Rattle.thing_state.specs.Calls.{Move, Called, no_number, no_memory, gives, failure_of, IsUnanswered, MakesCall}
+use Rattle.thing_core.specs.Thing.{Done, SeesWritten, emissions_of_write, IfDone, Stops, WritesEach}
+use Rattle.thing_core.specs.Performing.{Leads, MakesDone, OrMemory, WritesOne, is_done}
 use Rattle.thing_core.proofs.MoveLaws.{leads_none, leads_then, leads_end, made_unseen, or_memory}
 
 -- ---- one

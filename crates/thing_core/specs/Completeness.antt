@@ -15,11 +15,12 @@ use Rattle.thing_handler.specs.declared.handler.Answer.{Answer}
 use Rattle.thing_handler.specs.declared.handler.Answer.TheVariants as answer
 use Rattle.thing_handler.specs.Turns.{HandlerCall, answered, missed}
 use Rattle.thing_site.specs.Site.{Placed, Site}
-use Rattle.thing_core.specs.State.{State}
+use Rattle.thing_state.specs.State.{State, most_turns}
 use Rattle.thing_site.specs.declared.place.ThingAct.{ThingAct}
 use Rattle.thing_site.specs.declared.place.ThingAct.TheVariants as act
 use Rattle.thing_core.specs.Refusals.{act_asked, refusals, NoneStands}
-use Rattle.thing_core.specs.Thing.{Done, IsTaken, Acts, most_turns, read_outcome}
+use Rattle.thing_core.specs.Thing.{Done, Acts, read_outcome}
+use Rattle.thing_state.specs.Calls.{IsTaken}
 use Rattle.thing_core.specs.Performing.{affordances_of_act}
 
 -- ---- answers in kind

@@ -5,7 +5,7 @@ use Rattle.thing_ops.specs.Requests.{RequestSeen}
 use Rattle.thing_handler.specs.declared.handler.Answer.{Answer}
 use Rattle.thing_handler.specs.Turns.{HandlerCall, answered, missed}
 use Rattle.thing_site.specs.Site.{Site}
-use Rattle.thing_core.specs.State.{State}
+use Rattle.thing_state.specs.State.{State}
 use Rattle.thing_core.specs.Thing.{Done, Acts}
 
 -- each turn among some calls has the answer that is given for its number

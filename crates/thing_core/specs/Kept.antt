@@ -3,8 +3,8 @@ use Rattle.std.specs.Prelude.{ℕ, List, refl}
 use Rattle.std.specs.Coded.{Coded, code_by, coded×, coded_ℕ, coded_list}
 use Rattle.thing_site.specs.Site.{Site}
 use Rattle.thing_site.specs.SiteCodes.{site_code}
-use Rattle.thing_core.specs.State.{State}
-use Rattle.thing_core.specs.Course.{state_code}
+use Rattle.thing_state.specs.State.{State}
+use Rattle.thing_state.specs.Course.{state_code}
 
 -- the Things, the state of the machine, and the targets of emissions that weren't handed out yet
 pub record Kept : Type 0 where

@@ -1,15 +1,9 @@
-pub mod State
-pub mod Rooms
-pub mod Course
-pub mod Places
 pub mod Refusals
 pub mod Thing
-pub mod Keeping
 pub mod Kept
 pub mod Performing
 pub mod Completeness
 pub mod Determined
 pub mod Ticks
-pub mod Ids
 pub mod Rounds
 pub mod Runs

@@ -10,20 +10,20 @@ use Rattle.thing_ops.specs.declared.outcome.Outcome.{Outcome}
 use Rattle.thing_ops.specs.declared.outcome.Outcome.TheVariants as outcome
 use Rattle.thing_ops.specs.declared.conditions.Conditions.{Conditions}
 use Rattle.thing_ops.specs.Requests.{RequestSeen}
-use Rattle.thing_handler.specs.declared.handler.CallKind.{CallKind}
 use Rattle.thing_handler.specs.declared.handler.Answer.{Answer}
 use Rattle.thing_handler.specs.declared.handler.Answer.TheVariants as answer
 use Rattle.thing_handler.specs.Handler.{Seen}
 use Rattle.thing_handler.specs.Turns.{HandlerCall, RackShows}
 use Rattle.thing_core.specs.declared.admitting.Task.{Task}
 use Rattle.thing_site.specs.Site.{Placed}
-use Rattle.thing_core.specs.State.{State, Emission, Invocation, completed, running, status_text, invocation_named, running_count, most_invocations}
-use Rattle.thing_core.specs.Course.{Course, HasRoom}
+use Rattle.thing_state.specs.State.{State, Emission, Invocation, completed, running, status_text, invocation_named, running_count, most_invocations}
+use Rattle.thing_state.specs.Course.{Course}
 use Rattle.thing_site.specs.declared.place.ThingAct.{ThingAct}
 use Rattle.thing_site.specs.declared.place.ThingAct.TheVariants as act
 use Rattle.thing_site.specs.Refusals.{Input, longest_value, inputs_of, IsAnswer, IsFirst, IsNone}
 use Rattle.thing_core.specs.Refusals.{Asked, HasFailedCondition, HasNoInvocationLeft, act_asked, refusals, refusals_of_acts, StandsAgainst, IsRefusedBy, NoneStands}
-use Rattle.thing_core.specs.Thing.{Move, Done, only, Called, no_number, no_memory, gives, Calls, Decides, IsTaken, GivesValue, Answers, WritesEach, ReadsEach, PollsEach, Polls, emissions_of_write, place_of_invocation, IsInvoked, IsQueried, IsCancelled, Acts}
+use Rattle.thing_state.specs.Calls.{Move, Called, gives, IsTaken}
+use Rattle.thing_core.specs.Thing.{Done, only, Decides, GivesValue, Answers, WritesEach, ReadsEach, PollsEach, Polls, emissions_of_write, place_of_invocation, IsInvoked, IsQueried, IsCancelled, Acts}
 use Rattle.thing_core.specs.Kept.{Kept}
 
 -- ---- judging a request
@@ -74,39 +74,6 @@ abbrev pub InputsFit : ℕ → List Input → Type 0
 InputsFit count inputs = AllByRecursion (λ i. (i.affordance.slot < count) × (length (text_of i.value) ≤ longest_value)) inputs
 
 -- ---- acting
-
--- a handler was called, and nothing else changed but the number of turns
-pub record MakesCall (slot : ℕ) (what : CallKind) (called : Called) (old new : Course) (before after : List Seen) : Type 0 where
-  pub made : Makes RackShows (Calls slot what called) old.state new.state before after
-  pub pending : new.pending ≡ old.pending
-  pub room : new.room ≡ old.room
-  pub slots : length after ≡ length before
-
--- there was no answer, and this is the outcome of the request
-abbrev pub IsUnanswered : Called → Outcome → Type 0
-IsUnanswered no_number o = o ≡ outcome.CallsUsed
-IsUnanswered no_memory o = o ≡ outcome.Memory
-IsUnanswered (gives answer) o = ⊥
-
--- an answer, or the outcome of the request where there was none
-abbrev pub ComesAs : Called → Result Answer Outcome → Type 0
-ComesAs called (Ok answer) = called ≡ gives answer
-ComesAs called (Err o) = IsUnanswered called o
-
--- where it was answered, a value of any property may be seen: the turn hasn't brought a version about yet
-abbrev pub HasRoomAfter : Called → State → Type 0
-HasRoomAfter (gives answer) s = HasRoom s
-HasRoomAfter called s = Unit {0}
-
--- the same where this holds of what came of the call
-pub record CallsFor (P : Called → Type 0) (slot : ℕ) (what : CallKind) (old new : Course) (before after : List Seen) : Type 0 where
-  pub called : Called
-  pub comes : P called
-  pub versions : HasRoomAfter called new.state
-  pub made : Makes RackShows (Calls slot what called) old.state new.state before after
-  pub pending : new.pending ≡ old.pending
-  pub room : new.room ≡ old.room
-  pub slots : length after ≡ length before
 
 -- an act was done, with this outcome; its emissions wait to be handed out after those that were
 pub record MakesDone (move : Done → Move) (o : Outcome) (old new : Course) (before after : List Seen) : Type 0 where
@@ -182,15 +149,6 @@ WritesOne i (Some o) old new before after =
     → Makes RackShows (WritesEach (i ∷ inputs) emitted (record { outcome = o; emissions = emitted })) old.state new.state before after)
 
 -- ---- polling
-
-abbrev pub has_fired : Called → Bool
-has_fired (gives (answer.Fired value)) = true
-has_fired called = false
-
--- the value that an event came about with
-abbrev pub IsFired : Called → Option Tree → Type 0
-IsFired called (Some value) = called ≡ gives (answer.Fired value)
-IsFired called None = has_fired called ≡ false
 
 -- events were polled, one after another; their emissions wait to be handed out
 pub record PollsSome (ps : List Placed) (old new : Course) (before after : List Seen) : Type 0 where

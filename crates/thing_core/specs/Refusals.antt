@@ -14,8 +14,8 @@ use Rattle.thing_site.specs.declared.place.Resource.{Resource}
 use Rattle.thing_site.specs.declared.place.ThingAct.{ThingAct}
 use Rattle.thing_site.specs.declared.place.ThingAct.TheVariants as act
 use Rattle.thing_site.specs.Refusals.{Refusal, nothing_there, verb_not_taken, condition_failed, no_invocation_left, refusals_by_request, Holding, StandsByRequest, IsAnswer, IsFirst, IsNone}
-use Rattle.thing_core.specs.State.{State, running_count, most_invocations, version_of}
-use Rattle.thing_core.specs.Places.{place_of}
+use Rattle.thing_state.specs.State.{State, running_count, most_invocations, version_of}
+use Rattle.thing_state.specs.Places.{place_of}
 
 -- A property would be written whose version isn't what the request asks for. Its version before the call counts, so
 -- that a client that read it first loses nobody's write (RFC 9110, section 13.1.1). Of all else that is written no

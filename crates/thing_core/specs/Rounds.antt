@@ -7,7 +7,7 @@ use Rattle.thing_handler.specs.Handler.{Seen}
 use Rattle.thing_handler.specs.Turns.{RackShows}
 use Rattle.thing_site.specs.Site.{Placed, ExposedThing, Site, of_kind, events_of}
 use Rattle.thing_core.specs.declared.polling.Round.{Round}
-use Rattle.thing_core.specs.State.{Emission}
+use Rattle.thing_state.specs.State.{Emission}
 use Rattle.thing_core.specs.Thing.{PollsEvent}
 use Rattle.thing_core.specs.Kept.{Kept}
 

@@ -9,9 +9,10 @@ use Rattle.thing_handler.specs.Turns.{HandlerCall}
 use Rattle.thing_site.specs.Site.{Placed, Site}
 use Rattle.thing_site.specs.declared.place.ThingAct.{ThingAct}
 use Rattle.thing_site.specs.declared.place.ThingAct.TheVariants as act
-use Rattle.thing_core.specs.State.{State, Emission, Version, is_last_seen, after_text, start, properties_of, version_of}
+use Rattle.thing_state.specs.State.{State, Emission, Version, is_last_seen, after_text, start, properties_of, version_of, most_turns}
 use Rattle.thing_core.specs.Refusals.{act_asked}
-use Rattle.thing_core.specs.Thing.{Move, Done, Acts, Polls, most_turns}
+use Rattle.thing_state.specs.Calls.{Move}
+use Rattle.thing_core.specs.Thing.{Done, Acts, Polls}
 
 -- ---- runs
 

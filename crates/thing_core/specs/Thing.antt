@@ -1,7 +1,7 @@
 -- The Thing machine: requests to Things with their outcomes, and polls of their events, as moves over a state
 -- (servient_base/specs/Moves.antt). The trace of a move has the calls of device handlers: those that were answered,
 -- which are turns, and those for which a handler was out of memory.
-use Rattle.std.specs.Prelude.{◌≡◌, ◌<◌, ◌≤◌, ◌+◌, ◌⊎◌, ℕ, List, [], ◌∷◌, ◌++◌, length, decimal, Bool, not, Option, Some, None, Result, Ok, Err, if◌then◌else◌}
+use Rattle.std.specs.Prelude.{◌≡◌, ◌+◌, ◌⊎◌, ℕ, List, [], ◌∷◌, ◌++◌, decimal, Bool, not, Option, Some, None, Result, Ok, Err, if◌then◌else◌}
 use Rattle.std.specs.List.{filter}
 use Rattle.servient_base.specs.Moves.{Becomes, Stays, Then, Passing}
 use Rattle.wot_json.specs.Tree.{Json, object, members_of}
@@ -14,21 +14,16 @@ use Rattle.thing_ops.specs.declared.outcome.Outcome.{Outcome}
 use Rattle.thing_ops.specs.declared.outcome.Outcome.TheVariants as outcome
 use Rattle.thing_ops.specs.Conditions.{fails, has}
 use Rattle.thing_ops.specs.Requests.{RequestSeen}
-use Rattle.thing_handler.specs.declared.handler.CallKind.{CallKind}
 use Rattle.thing_handler.specs.declared.handler.CallKind.TheVariants as call
-use Rattle.thing_handler.specs.declared.handler.Answer.{Answer}
 use Rattle.thing_handler.specs.declared.handler.Answer.TheVariants as answer
-use Rattle.thing_handler.specs.Turns.{HandlerCall, answered, missed}
+use Rattle.thing_handler.specs.Turns.{HandlerCall}
 use Rattle.thing_site.specs.Site.{Placed, ExposedThing, Site, those_of, events_of}
-use Rattle.thing_core.specs.State.{Status, running, completed, Invocation, State, Emission, invocation_named, without_invocation, with_completed, with_running, status_text, last_of, last_after, versions_after, version_of}
+use Rattle.thing_state.specs.State.{Status, running, completed, Invocation, State, Emission, invocation_named, without_invocation, with_completed, with_running, status_text, last_of, last_after, versions_after, version_of, with_seen, with_id_used, with_invocations}
 use Rattle.thing_site.specs.declared.place.ThingAct.{ThingAct}
 use Rattle.thing_site.specs.declared.place.ThingAct.TheVariants as act
-use Rattle.thing_site.specs.Refusals.{Input, IsAccepted, longest_value, inputs_of}
+use Rattle.thing_site.specs.Refusals.{Input, inputs_of}
+use Rattle.thing_state.specs.Calls.{Move, Called, gives, Calls, failure_of, IsTaken}
 use Rattle.thing_core.specs.Refusals.{act_asked, refusals, IsRefusedBy, NoneStands}
-
--- a move of this machine
-abbrev pub Move : Type 1
-Move = State → List HandlerCall → State → Type 0
 
 -- the outcome of a request, and what is emitted meanwhile, in order
 pub record Done : Type 0 where
@@ -37,38 +32,6 @@ pub record Done : Type 0 where
 
 abbrev pub only : Outcome → Done
 only o = record { outcome = o; emissions = [] }
-
--- ---- one call of a handler
-
--- the most turns that a run may have
-abbrev pub most_turns : ℕ
-most_turns = 4294967295
-
--- the result of it: the run has no number left for a turn, the handler is out of memory, or it answers
-pub data Called : Type 0 where
-  no_number no_memory : Called
-  gives : Answer → Called
-
-abbrev pub Calls : ℕ → CallKind → Called → Move
-Calls slot what no_number s seen t = (s.turns ≡ most_turns) × Stays s seen t
-Calls slot what no_memory s seen t = (s.turns < most_turns) × Becomes s (missed slot ∷ []) seen t
-Calls slot what (gives a) s seen t =
-    (s.turns < most_turns)
-    × Becomes (record s { turns = s.turns + 1 }) (answered (record { number = s.turns; slot = slot; what = what; answer = a }) ∷ []) seen t
-
--- the outcome where that isn't a success of its act: a refusal and a fault of the device as they are; any other
--- answer is one that it mustn't give
-abbrev pub failure_of : Called → Outcome
-failure_of no_number = outcome.CallsUsed
-failure_of no_memory = outcome.Memory
-failure_of (gives (answer.Refused n)) = outcome.Refused n
-failure_of (gives (answer.DeviceFault n)) = outcome.DeviceFault n
-failure_of (gives a) = outcome.BadAnswer
-
--- a value of a device is taken where its schema, if it has one, accepts it, and its text is no
--- longer than a value may be
-abbrev pub IsTaken : Option Json → Json → Type 0
-IsTaken schema value = IsAccepted schema value × (length (text_of value) ≤ longest_value)
 
 -- the one where this holds, and else the other
 abbrev pub Decides : {A : Type 0} → Type 0 → A → A → A → Type 0
@@ -80,10 +43,6 @@ Decides P one otherwise result = (P × (result ≡ one)) ⊎ ((¬ P) × (result 
 abbrev pub GivesValue : Option Json → Called → Result Json Outcome → Type 0
 GivesValue schema (gives (answer.Value tree)) r = Decides (IsTaken schema (json_of tree)) (Ok (json_of tree)) (Err outcome.BadAnswer) r
 GivesValue schema called r = r ≡ Err (failure_of called)
-
--- this text is seen of the property in this slot
-abbrev pub with_seen : ℕ → List ℕ → State → State
-with_seen slot text s = record s { versions = versions_after slot text s.versions }
 
 -- the value that a property gave is seen, where it gave one
 abbrev pub with_value : Placed → Result Json Outcome → State → State
@@ -173,13 +132,6 @@ WritesEach (i ∷ inputs) emitted done s seen t =
 abbrev pub IsHandedIn : List Input → Option Tree → Type 0
 IsHandedIn [] handed = handed ≡ None
 IsHandedIn (i ∷ inputs) handed = (tree : Tree) × (json_of tree ≡ i.value) × (handed ≡ Some tree)
-
--- an invocation that was answered uses its id, with any answer
-abbrev pub with_id_used : State → State
-with_id_used s = record s { next_invocation = s.next_invocation + 1 }
-
-abbrev pub with_invocations : List Invocation → State → State
-with_invocations invocations s = record s { invocations = invocations }
 
 -- the path of an invocation: that of its action, and the id
 abbrev pub place_of_invocation : List (List ℕ) → ℕ → List (List ℕ)

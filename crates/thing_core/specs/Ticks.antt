@@ -4,7 +4,7 @@ use Rattle.std.specs.List.{filter_map}
 use Rattle.servient_base.specs.Moves.{Each}
 use Rattle.thing_handler.specs.Turns.{HandlerCall}
 use Rattle.thing_site.specs.Site.{Placed, Site, events_of}
-use Rattle.thing_core.specs.State.{State, Emission}
+use Rattle.thing_state.specs.State.{State, Emission}
 use Rattle.thing_core.specs.Thing.{PollsEvent, Polls}
 
 -- a trace of polls whose emissions are handed out: calls of handlers, and the emissions as they are handed out

@@ -3,22 +3,21 @@
 ghost use Rattle.std.specs.Prelude.{◌≡◌, ◌≤◌, length, map, option_map, IfSome};
 ghost use Rattle.wot_json.specs.Json.{text_of as text_of_value};
 ghost use Rattle.thing_ops.specs.Requests.{request_seen};
-ghost use Rattle.thing_core.specs.State.{last_of};
+ghost use Rattle.thing_state.specs.State.{last_of};
 ghost use Rattle.thing_core.specs.Thing.{event_outcome, Performs};
 ghost use Rattle.thing_site.specs.Refusals.{longest_value};
 ghost use Rattle.thing_core.specs.Performing.{affordances_of_act, AllStand, InputsFit, IsOrMemory, MakesDone, MayBeDone, OrMemory};
 
 use crate::admitting::Task;
 use crate::invoking::{cancel, invoke, prepare, query};
-use crate::machine::Machine;
 use crate::reading::{read, read_all};
-use crate::state::LastValue;
 use crate::writing::write_each;
 use servient_base::Target;
 use std::alloc::Global;
 use thing_handler::Handlers;
 use thing_ops::{Outcome, Request};
 use thing_site::{HeldThing, ThingAct};
+use thing_state::{LastValue, Machine};
 use wot_json::{Bytes, text_of};
 
 /// Does an act.

@@ -2,16 +2,14 @@
 
 ghost use Rattle.std.specs.Prelude.{◌≡◌, MatchOption, count_by};
 ghost use Rattle.thing_ops.specs.Requests.{request_seen};
-ghost use Rattle.thing_core.specs.State as state;
+ghost use Rattle.thing_state.specs.State as state;
 ghost use Rattle.thing_core.specs.Refusals as refusal;
 ghost use Rattle.thing_core.specs.Performing.{IsAdmitted, IsRefusedByState};
 
-use crate::machine::Machine;
-use crate::standing::place_of;
-use crate::state::{Invocation, MOST_INVOCATIONS};
 use std::alloc::Global;
 use thing_ops::{Conditions, Outcome, Request, route};
 use thing_site::{IndexedThings, Input, ThingAct, act_at, judge};
+use thing_state::{Invocation, MOST_INVOCATIONS, Machine, place_of};
 
 /// An act to do, with what is handed in to it.
 #[derive(Drop)]

@@ -4,23 +4,18 @@ ghost use Rattle.std.specs.Prelude.{◌≡◌, ◌≤◌, ◌<◌, [], ◌∷◌
 ghost use Rattle.std.specs.List.{AllByRecursion};
 ghost use Rattle.wot_terms.specs.Faults.{IsValid};
 ghost use Rattle.thing_site.specs.Site.{site_of, expose_faults};
-ghost use Rattle.thing_core.specs.State.{start, last_of};
-ghost use Rattle.thing_core.specs.Places.{target_of as target_of_path};
+ghost use Rattle.thing_state.specs.State.{start, last_of, most_turns};
+ghost use Rattle.thing_state.specs.Places.{target_of as target_of_path};
 ghost use Rattle.thing_site.specs.Exposing.{kinds_of, IsFirst};
 ghost use Rattle.thing_site.specs.Fits.{Fits};
 ghost use Rattle.thing_core.specs.Performing.{MakesAct, MakesPolls};
 ghost use Rattle.thing_core.specs.Rounds.{PollsNext};
-ghost use Rattle.thing_core.specs.Thing.{most_turns};
 ghost use Rattle.thing_site.specs.Refusals.{longest_value};
 ghost use Rattle.thing_ops.specs.Requests.{request_seen};
 
 use crate::acting::{act, last_in};
 use crate::admitting::admitted;
-use crate::emitters::silent_all;
-use crate::machine::Machine;
 use crate::polling::{Round, poll_all, poll_next};
-use crate::properties::unseen_all;
-use crate::standing::place_of;
 use crate::{ExposeFault, Slots};
 use servient_base::Target;
 use std::alloc::Global;
@@ -28,6 +23,7 @@ use std::marker::Model;
 use thing_handler::Handlers;
 use thing_ops::{Outcome, Request, Segments};
 use thing_site::{IndexedThings, target_at};
+use thing_state::{Machine, place_of, silent_all, unseen_all};
 use wot_terms::Things;
 
 /// Things, their affordances and the handlers of these, with the state of the Thing machine.
@@ -135,8 +131,7 @@ impl Exposed {
         ensures site { self.new.site ≡ self.old.site }
         ensures state { self.new.state ≡ self.old.state }
     {
-        let machine = &mut self.machine;
-        machine.pending.pop_front()
+        self.machine.hand_out()
     }
 
     /// The text of the last emission of this target, which has at most 1,024 bytes.
@@ -163,7 +158,6 @@ impl Exposed {
     pub fn next_invocation(&self) -> u64
         ensures { result ≡ self.now.state.next_invocation }
     {
-        let machine = &self.machine;
-        machine.next_invocation
+        self.machine.next_invocation()
     }
 }

@@ -1,23 +1,21 @@
 //! Actions: they are invoked, and invocations that run are queried and cancelled.
 
 ghost use Rattle.std.specs.Prelude.{◌≡◌, ◌≤◌, ◌<◌, ℕ, List, [], length, map, None, IfOk, IfSome, IsSome};
-ghost use Rattle.thing_core.specs.Ids.{IdsRise};
-ghost use Rattle.thing_core.specs.State.{invocation_named, is_running as is_running_one, most_invocations, running, running_count, status_text};
+ghost use Rattle.thing_state.specs.Ids.{IdsRise};
+ghost use Rattle.thing_state.specs.State.{invocation_named, is_running as is_running_one, most_invocations, running, running_count, status_text};
 ghost use Rattle.thing_core.specs.Thing.{place_of_invocation, Cancels, Invokes, IsHandedIn, OnInvocation, Queries};
 ghost use Rattle.thing_core.specs.Performing.{IsTold, MakesDone, OrMemory, OutputComesTo, SettlesCancel, SettlesInvocation, SettlesQuery};
 
 use crate::NoMemory;
-use crate::calling::{call, failure, taken_text};
-use crate::machine::Machine;
-use crate::room::TextRoom;
-use crate::standing::invocation_in;
-use crate::state::{Invocation, MOST_TURNS};
-use crate::status::{put_completed, put_running};
 use itoa::Buffer;
 use std::alloc::Global;
 use thing_handler::{Answer, CallKind, Handlers, Slot};
 use thing_ops::{Outcome, Segments};
 use thing_site::{Input, LONGEST_VALUE, Spot};
+use thing_state::{
+    Invocation, MOST_TURNS, Machine, TextRoom, call, failure, invocation_in, put_completed,
+    put_running, taken_text,
+};
 use wot_json::{Bytes, Tree};
 use wot_schema::Schema;
 

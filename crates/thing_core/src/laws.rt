@@ -6,7 +6,7 @@ ghost use Rattle.thing_ops.specs.Requests.{RequestSeen};
 ghost use Rattle.thing_handler.specs.Handler.{Seen};
 ghost use Rattle.thing_handler.specs.Turns.{HandlerCall};
 ghost use Rattle.thing_site.specs.Site.{Site};
-ghost use Rattle.thing_core.specs.State.{State};
+ghost use Rattle.thing_state.specs.State.{State};
 ghost use Rattle.thing_site.specs.Refusals.{refused_by_schema};
 ghost use Rattle.thing_core.specs.Refusals.{Stands};
 ghost use Rattle.thing_core.specs.Thing.{Acts, Done};

@@ -13,30 +13,21 @@
 //! ```
 //!
 //! Contracts see the site, which is constant (`Site` of `thing_site`), and the state of the Thing machine
-//! (`specs/State.antt`). The contract in a sentence: `perform` makes a move of that machine (`Acts` of
-//! `specs/Thing.antt`), `tick` makes one of its polls (`Polls`), `poll_next` that of one event, and the rack shows the
-//! calls of each. Each property has a version, which counts the texts that were seen of it; the conditions of a request
-//! on it are judged for one property alone (RFC 9110, section 13). Memory is taken before the first call of a handler,
-//! and by polls never.
+//! (`State` of `thing_state`, which has each change of it and each call of a handler). The contract in a sentence:
+//! `perform` makes a move of that machine (`Acts` of `specs/Thing.antt`), `tick` makes one of its polls (`Polls`),
+//! `poll_next` that of one event, and the rack shows the calls of each. Each property has a version, which counts the
+//! texts that were seen of it; the conditions of a request on it are judged for one property alone (RFC 9110, section
+//! 13). Memory is taken before the first call of a handler, and by polls never.
 #![tactic(auto)]
 
 mod acting;
 mod admitting;
-mod calling;
-mod emitters;
 mod exposed;
 mod field;
 mod invoking;
 mod laws;
-mod machine;
 mod polling;
-mod properties;
 mod reading;
-mod room;
-mod standing;
-mod state;
-mod status;
-mod version;
 mod writing;
 
 pub use exposed::{Accounts, Exposed};
@@ -47,5 +38,5 @@ pub use laws::{
 };
 pub use polling::Round;
 pub use servient_base::NoMemory;
-pub use state::MOST_TURNS;
 pub use thing_site::{ExposeFault, Slots};
+pub use thing_state::MOST_TURNS;

@@ -7,10 +7,9 @@ ghost use Rattle.thing_site.specs.Site.{Placed, Site, events_of, of_kind};
 ghost use Rattle.thing_core.specs.Rounds.{events_left};
 ghost use Rattle.thing_core.specs.Performing.{AllStand, PollsSome};
 
-use crate::calling::{call, fired, taken_text};
-use crate::machine::Machine;
 use thing_handler::{CallKind, Handlers};
 use thing_site::{HeldThing, LONGEST_VALUE, Spot, is_kind};
+use thing_state::{Machine, call, fired, taken_text};
 use wot_terms::Kind;
 
 /// The position of a round of polls: the affordance that comes next, and its Thing. Contracts see the events that are

@@ -5,16 +5,16 @@ ghost use Rattle.std.specs.List.{filter};
 ghost use Rattle.wot_json.specs.Json.{json_string};
 ghost use Rattle.thing_site.specs.Site.{of_kind};
 ghost use Rattle.thing_core.specs.Thing.{is_readable, read_outcome, readable, Reads, ReadsEach};
-ghost use Rattle.thing_core.specs.Performing.{with_member, room_of_all, AllStand, CallsFor, IsValueOf, MakesDone, OrMemory, ReadsOne};
+ghost use Rattle.thing_core.specs.Performing.{with_member, room_of_all, AllStand, IsValueOf, MakesDone, OrMemory, ReadsOne};
+ghost use Rattle.thing_state.specs.Calls.{CallsFor};
 
 use crate::NoMemory;
-use crate::calling::{call, failure, taken_text};
 use crate::field::Field;
-use crate::machine::Machine;
 use std::alloc::Global;
 use thing_handler::{Answer, CallKind, Handlers};
 use thing_ops::{Conditions, Outcome};
 use thing_site::{HeldThing, LONGEST_VALUE, Spot};
+use thing_state::{Machine, call, failure, taken_text};
 use wot_json::{Bytes, Tree};
 use wot_terms::Kind;
 

@@ -2,17 +2,16 @@
 
 ghost use Rattle.std.specs.Prelude.{◌≡◌, ◌≤◌, ◌<◌, ◌+◌, ◌++◌, [], length, map};
 ghost use Rattle.wot_json.specs.Json.{text_of};
-ghost use Rattle.thing_core.specs.State.{last_after, versions_after};
-ghost use Rattle.thing_core.specs.Course.{HasRoom};
+ghost use Rattle.thing_state.specs.State.{last_after, versions_after};
+ghost use Rattle.thing_state.specs.Course.{HasRoom};
 ghost use Rattle.thing_site.specs.Refusals.{longest_value};
 ghost use Rattle.thing_core.specs.Thing.{WritesEach};
 ghost use Rattle.thing_core.specs.Performing.{emissions_of_text, InputsFit, MakesDone, OrMemory, WritesOne};
 
-use crate::calling::{call, failure};
-use crate::machine::Machine;
 use thing_handler::{Answer, CallKind, Handlers};
 use thing_ops::Outcome;
 use thing_site::{Input, Spot};
+use thing_state::{Machine, call, failure};
 
 /// Writes values to properties, one after another, until one isn't done. Room for the emissions is taken before the
 /// first call, so that each write that is done can be emitted.

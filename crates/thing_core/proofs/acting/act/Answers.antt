@@ -4,7 +4,7 @@ use Rattle.thing_ops.specs.declared.outcome.Outcome.TheVariants as outcome
 use Rattle.thing_ops.specs.Requests.{request_seen}
 use Rattle.thing_site.specs.declared.place.ThingAct.{ThingAct}
 use Rattle.thing_site.specs.Site.{ExposedThing}
-use Rattle.thing_core.specs.State.{last_of}
+use Rattle.thing_state.specs.State.{last_of}
 use Rattle.thing_core.specs.Thing.{only, event_outcome, Performs}
 use Rattle.thing_core.proofs.MoveLaws.{answers_done, memory_out}
 use Rattle.thing_core.proofs.acting.act.Goals as goal

@@ -1,5 +1,5 @@
 use Rattle.std.proofs.Common.{◌≡◌, drop}
-use Rattle.thing_core.specs.State.{last_of}
+use Rattle.thing_state.specs.State.{last_of}
 use Rattle.thing_core.proofs.acting.last_in.Given as goal
 
 abbrev pub invariant-loop-latest : goal.invariant-loop-latest

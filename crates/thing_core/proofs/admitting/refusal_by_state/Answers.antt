@@ -1,6 +1,6 @@
 use Rattle.std.proofs.Common.{◌∙◌, sym, ap}
-use Rattle.thing_core.specs.State.{running_count}
-use Rattle.thing_core.proofs.InvocationLists.{running_are_counted}
+use Rattle.thing_state.specs.State.{running_count}
+use Rattle.thing_state.proofs.InvocationLists.{running_are_counted}
 use Rattle.thing_core.proofs.RefusalLaws.{free_by_count, full_by_count}
 use Rattle.thing_core.proofs.admitting.refusal_by_state.Goals as goal
 

@@ -1,10 +1,9 @@
 use Rattle.std.proofs.Common.{◌≡◌, ℕ, List, true, false, refl, subst}
 use Rattle.std.specs.Prelude.{Err, IfSome}
 use Rattle.thing_handler.specs.declared.handler.CallKind.TheVariants as call
-use Rattle.thing_core.specs.State.{Invocation, invocation_named, is_running}
-use Rattle.thing_core.specs.Thing.{gives}
-use Rattle.thing_core.specs.Performing.{ComesAs}
-use Rattle.thing_core.proofs.MoveLaws.{makes_answered, makes_call}
+use Rattle.thing_state.specs.State.{Invocation, invocation_named, is_running}
+use Rattle.thing_state.specs.Calls.{gives, ComesAs}
+use Rattle.thing_state.proofs.CallLaws.{makes_answered, makes_call}
 use Rattle.thing_core.proofs.InvokeLaws.{found_running, removed_done, cancel_done, unanswered_cancel}
 use Rattle.thing_core.proofs.invoking.cancel.Goals as goal
 

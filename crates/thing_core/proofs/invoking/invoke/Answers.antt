@@ -2,9 +2,8 @@ use Rattle.std.proofs.Common.{◌∙◌, ℕ, refl, sym, subst}
 use Rattle.std.specs.Prelude.{Err}
 use Rattle.thing_ops.specs.declared.outcome.Outcome.TheVariants as outcome
 use Rattle.thing_handler.specs.declared.handler.CallKind.TheVariants as call
-use Rattle.thing_core.specs.Thing.{no_number, gives}
-use Rattle.thing_core.specs.Performing.{ComesAs, MakesCall}
-use Rattle.thing_core.proofs.MoveLaws.{call_full, makes_answered, makes_call}
+use Rattle.thing_state.specs.Calls.{no_number, gives, ComesAs, MakesCall}
+use Rattle.thing_state.proofs.CallLaws.{call_full, makes_answered, makes_call}
 use Rattle.thing_core.proofs.InvokeLaws.{invoke_done, invoked_after, unanswered_invoke}
 use Rattle.thing_core.proofs.invoking.invoke.Goals as goal
 

@@ -1,10 +1,12 @@
 use Rattle.std.proofs.Common.{ℕ, List, refl, subst}
 use Rattle.std.specs.Prelude.{Ok, Err}
 use Rattle.thing_handler.specs.declared.handler.CallKind.TheVariants as call
-use Rattle.thing_core.specs.State.{Invocation, invocation_named}
-use Rattle.thing_core.specs.Thing.{gives, OnInvocation, Queries}
-use Rattle.thing_core.specs.Performing.{ComesAs, IsTold}
-use Rattle.thing_core.proofs.MoveLaws.{makes_answered, makes_call, memory_out, or_memory}
+use Rattle.thing_state.specs.State.{Invocation, invocation_named}
+use Rattle.thing_state.specs.Calls.{gives, ComesAs}
+use Rattle.thing_core.specs.Thing.{OnInvocation, Queries}
+use Rattle.thing_core.specs.Performing.{IsTold}
+use Rattle.thing_state.proofs.CallLaws.{makes_answered, makes_call}
+use Rattle.thing_core.proofs.MoveLaws.{memory_out, or_memory}
 use Rattle.thing_core.proofs.InvokeLaws.{running_one, told_done, query_done, unanswered_query}
 use Rattle.thing_core.proofs.invoking.query.Goals as goal
 

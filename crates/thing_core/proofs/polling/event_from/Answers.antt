@@ -5,7 +5,8 @@ use Rattle.std.proofs.lemmas.List.{at_drop_all}
 use Rattle.wot_terms.specs.declared.kind.Kind.TheVariants as kind
 use Rattle.wot_terms.specs.declared.affordance.Affordance.{Affordance}
 use Rattle.thing_site.specs.Site.{is_kind}
-use Rattle.thing_core.proofs.PlacedLists.{events_among, placed_end}
+use Rattle.thing_core.proofs.PlacedLists.{events_among}
+use Rattle.thing_state.proofs.PlacedLists.{placed_end}
 use Rattle.thing_core.proofs.RoundLaws.{next_is_event, next_is_none}
 
 pub loop-index-init : goal.loop-index-init

@@ -3,11 +3,11 @@ use Rattle.std.specs.Prelude.{Err}
 use Rattle.std.proofs.lemmas.List.{append-nil}
 use Rattle.wot_json.specs.Meaning.{json_of}
 use Rattle.thing_handler.specs.declared.handler.CallKind.TheVariants as call
-use Rattle.thing_core.specs.State.{last_after}
-use Rattle.thing_core.specs.Thing.{emission, gives, IsTaken}
-use Rattle.thing_core.specs.Performing.{ComesAs}
+use Rattle.thing_state.specs.State.{last_after}
+use Rattle.thing_core.specs.Thing.{emission}
+use Rattle.thing_state.specs.Calls.{gives, IsTaken, ComesAs}
 use Rattle.wot_terms.specs.declared.affordance.Affordance.{Affordance}
-use Rattle.thing_core.proofs.MoveLaws.{makes_answered, makes_call}
+use Rattle.thing_state.proofs.CallLaws.{makes_answered, makes_call}
 use Rattle.thing_core.proofs.PollLaws.{one_polled, unanswered_poll, not_fired, fired_taken, fired_refused}
 use Rattle.thing_core.proofs.polling.poll.Goals as goal
 

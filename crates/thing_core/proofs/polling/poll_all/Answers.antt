@@ -2,7 +2,7 @@ use Rattle.std.proofs.Common.{◌≡◌, ◌∙◌, ℕ, List, [], ◌∷◌, �
 use Rattle.std.proofs.lemmas.List.{append-nil}
 use Rattle.thing_handler.specs.Handler.{Seen}
 use Rattle.thing_site.specs.Site.{Placed, events_of}
-use Rattle.thing_core.specs.Course.{Course}
+use Rattle.thing_state.specs.Course.{Course}
 use Rattle.thing_core.specs.Rounds.{events_left}
 use Rattle.thing_core.specs.Performing.{AllStand, PollsSome}
 use Rattle.thing_core.proofs.PollLaws.{none_polled, polled_then}

@@ -1,7 +1,8 @@
 use Rattle.std.proofs.Common.{◌+◌, ◌++◌, List, [], ◌∷◌, drop, ap, sym, ◌∙◌, append_assoc, arith}
 use Rattle.std.proofs.lemmas.List.{append-nil, at_drop_all}
 use Rattle.thing_site.specs.Site.{Placed}
-use Rattle.thing_core.proofs.PlacedLists.{placed_more, placed_end, readable_of, readable_more}
+use Rattle.thing_state.proofs.PlacedLists.{placed_more, placed_end}
+use Rattle.thing_core.proofs.PlacedLists.{readable_of, readable_more}
 use Rattle.thing_core.proofs.reading.fields_of.Goals as goal
 
 pub returns-in-None : goal.returns-in-None

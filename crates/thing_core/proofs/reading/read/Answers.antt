@@ -4,12 +4,14 @@ use Rattle.wot_json.specs.Json.{json_text}
 use Rattle.wot_json.specs.Meaning.{json_of}
 use Rattle.thing_ops.specs.declared.outcome.Outcome.TheVariants as outcome
 use Rattle.thing_handler.specs.declared.handler.CallKind.TheVariants as call
-use Rattle.thing_core.specs.Thing.{Called, Reads, IsTaken, read_outcome, with_seen}
-use Rattle.thing_core.specs.Performing.{HasRoomAfter, IsValueOf}
-use Rattle.thing_core.specs.State.{version_of}
-use Rattle.thing_core.specs.Course.{Course}
+use Rattle.thing_state.specs.Calls.{Called, IsTaken, HasRoomAfter}
+use Rattle.thing_core.specs.Thing.{Reads, read_outcome}
+use Rattle.thing_state.specs.State.{with_seen, version_of}
+use Rattle.thing_core.specs.Performing.{IsValueOf}
+use Rattle.thing_state.specs.Course.{Course}
 use Rattle.wot_terms.specs.declared.affordance.Affordance.{Affordance}
-use Rattle.thing_core.proofs.MoveLaws.{makes_call, memory_out}
+use Rattle.thing_state.proofs.CallLaws.{makes_call}
+use Rattle.thing_core.proofs.MoveLaws.{memory_out}
 use Rattle.thing_core.proofs.ReadLaws.{read_done, value_taken, value_refused}
 use Rattle.thing_core.proofs.reading.read.Goals as goal
 

@@ -4,11 +4,12 @@ use Rattle.wot_json.specs.Meaning.{json_of}
 use Rattle.thing_ops.specs.declared.outcome.Outcome.TheVariants as outcome
 use Rattle.thing_handler.specs.declared.handler.CallKind.TheVariants as call
 use Rattle.thing_site.specs.Site.{Placed}
-use Rattle.thing_core.specs.Performing.{open_object, with_member, HasRoomAfter, IsValueOf}
-use Rattle.thing_core.specs.Course.{Course}
+use Rattle.thing_core.specs.Performing.{open_object, with_member, IsValueOf}
+use Rattle.thing_state.specs.Calls.{HasRoomAfter, Called, IsTaken}
+use Rattle.thing_state.specs.Course.{Course}
 use Rattle.wot_terms.specs.declared.affordance.Affordance.{Affordance}
-use Rattle.thing_core.specs.Thing.{Called, IsTaken, with_seen}
-use Rattle.thing_core.proofs.MoveLaws.{makes_call}
+use Rattle.thing_state.specs.State.{with_seen}
+use Rattle.thing_state.proofs.CallLaws.{makes_call}
 use Rattle.thing_core.proofs.ReadLaws.{read_goes_on, read_stops, value_taken, value_refused, open_more}
 use Rattle.thing_core.proofs.reading.read_one.Goals as goal
 

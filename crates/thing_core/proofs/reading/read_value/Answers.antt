@@ -1,7 +1,8 @@
 use Rattle.std.specs.Prelude.{Err}
 use Rattle.thing_handler.specs.declared.handler.CallKind.TheVariants as call
-use Rattle.thing_core.specs.Performing.{ComesAs, IsValueOf}
-use Rattle.thing_core.proofs.MoveLaws.{calls_for, makes_call}
+use Rattle.thing_state.specs.Calls.{ComesAs}
+use Rattle.thing_core.specs.Performing.{IsValueOf}
+use Rattle.thing_state.proofs.CallLaws.{calls_for, makes_call}
 use Rattle.thing_core.proofs.ReadLaws.{unanswered_value}
 use Rattle.thing_core.proofs.reading.read_value.Goals as goal
 

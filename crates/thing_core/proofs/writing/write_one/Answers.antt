@@ -1,12 +1,13 @@
 use Rattle.std.proofs.Common.{◌≡◌, ◌∙◌, ◌++◌, map, ap, subst, false, rules}
 use Rattle.std.specs.Prelude.{Err}
-use Rattle.thing_core.specs.State.{Emission, last_after, versions_after}
+use Rattle.thing_state.specs.State.{Emission, last_after, versions_after}
 use Rattle.thing_handler.specs.declared.handler.Answer.{Answer}
 use Rattle.thing_handler.specs.declared.handler.CallKind.TheVariants as call
 use Rattle.thing_site.specs.Site.{Placed}
-use Rattle.thing_core.specs.Thing.{Called, emissions_of_write, gives}
-use Rattle.thing_core.specs.Performing.{emissions_of_text, is_done, ComesAs, HasRoomAfter}
-use Rattle.thing_core.proofs.MoveLaws.{makes_answered, makes_call}
+use Rattle.thing_state.specs.Calls.{Called, gives, ComesAs, HasRoomAfter}
+use Rattle.thing_core.specs.Thing.{emissions_of_write}
+use Rattle.thing_core.specs.Performing.{emissions_of_text, is_done}
+use Rattle.thing_state.proofs.CallLaws.{makes_answered, makes_call}
 use Rattle.thing_core.proofs.WriteLoop.{write_goes_on, write_stops, unanswered_write}
 use Rattle.thing_core.proofs.writing.write_one.Goals as goal
 

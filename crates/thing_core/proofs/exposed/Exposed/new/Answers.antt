@@ -1,6 +1,6 @@
 use Rattle.std.proofs.Common.{◌∙◌, ap}
-use Rattle.thing_core.specs.State.{properties_of, version_of}
-use Rattle.thing_core.proofs.VersionLists.{unseen_version}
+use Rattle.thing_state.specs.State.{properties_of, version_of}
+use Rattle.thing_state.proofs.VersionLists.{unseen_version}
 use Rattle.thing_core.proofs.exposed.Exposed.new.Goals as goal
 
 pub new-requires-2 : goal.new-requires-2

@@ -1,7 +1,7 @@
 use Rattle.std.proofs.Common.{List, ap, ◌∙◌}
 use Rattle.thing_site.specs.Places.{target_at}
-use Rattle.thing_core.specs.State.{Invocation}
-use Rattle.thing_core.specs.Places.{place_of}
+use Rattle.thing_state.specs.State.{Invocation}
+use Rattle.thing_state.specs.Places.{place_of}
 use Rattle.thing_core.specs.Kept.{Kept}
 use Rattle.thing_core.proofs.exposed.Exposed.target_of.Goals as goal
 

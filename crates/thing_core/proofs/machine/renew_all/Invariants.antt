@@ -1,8 +1,0 @@
-use Rattle.std.proofs.Common.{◌≡◌, ◌++◌, take, drop, map}
-use Rattle.thing_core.specs.State.{renewed}
-use Rattle.thing_core.proofs.machine.renew_all.Given as goal
-
-abbrev pub invariant-loop-latest : goal.invariant-loop-latest
-invariant-loop-latest l =
-    take l.latest-index l.latest-items ++ map (renewed (record { target = l.target; text = l.text })) (drop l.latest-index l.latest-items)
-    ≡ map (renewed (record { target = l.target; text = l.text })) l.initial.latest-items

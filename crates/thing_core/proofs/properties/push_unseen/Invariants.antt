@@ -1,8 +1,0 @@
-use Rattle.std.proofs.Common.{◌≡◌, ◌++◌, drop, map}
-use Rattle.thing_core.specs.State.{unseen}
-use Rattle.thing_core.proofs.PlacedLists.{properties_among}
-use Rattle.thing_core.proofs.properties.push_unseen.Given as goal
-
-abbrev pub invariant-loop-index : goal.invariant-loop-index
-invariant-loop-index l =
-    l.versions.items ++ map unseen (properties_among (drop l.index l.thing.affordances)) ≡ l.initial.versions.items ++ map unseen (properties_among l.thing.affordances)

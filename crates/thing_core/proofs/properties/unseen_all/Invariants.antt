@@ -1,7 +1,0 @@
-use Rattle.std.proofs.Common.{◌≡◌, ◌++◌, drop, map}
-use Rattle.thing_core.specs.State.{properties_of, unseen}
-use Rattle.thing_core.proofs.properties.unseen_all.Given as goal
-
-abbrev pub invariant-loop-thing : goal.invariant-loop-thing
-invariant-loop-thing l =
-    l.versions.items ++ map unseen (properties_of (drop l.thing-index l.things)) ≡ map unseen (properties_of l.things)

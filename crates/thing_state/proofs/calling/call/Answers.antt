@@ -1,0 +1,31 @@
+use Rattle.std.proofs.Common.{ℕ, refl, sym, ap, subst, ◌∙◌, arith}
+use Rattle.std.specs.Prelude.{Ok, Err}
+use Rattle.std.proofs.lemmas.Result.{err_from_is_err_and}
+use Rattle.thing_ops.specs.declared.outcome.Outcome.TheVariants as outcome
+use Rattle.thing_handler.specs.Handler.{CallsHandler}
+use Rattle.thing_state.specs.Course.{Course}
+use Rattle.thing_state.specs.Calls.{no_number, no_memory, gives, ComesAs}
+use Rattle.thing_state.proofs.CallLaws.{call_full, call_missed, call_answered, calls_for}
+use Rattle.thing_state.proofs.calling.call.Goals as goal
+
+pub returns-then-number-eq-MOST_TURNS : goal.returns-then-number-eq-MOST_TURNS
+returns-then-number-eq-MOST_TURNS g c =
+    calls_for (λ called. ComesAs called (Err outcome.CallsUsed)) c.args.slot c.args.what.now no_number c.args.machine.now c.args.machine.now (g.R.Handlers.slots c.args.rack.now) (g.R.Handlers.slots c.args.rack.now) refl tt
+    (call_full c.args.machine.now (g.R.Handlers.slots c.args.rack.now) c.args.slot c.args.what.now (sym (ap (λ (k : Course). k.state.turns) c.machine.view_is) ∙ c.if-number-eq-MOST_TURNS.true))
+
+pub returns : goal.returns
+returns g c =
+    calls_for (λ called. ComesAs called (Ok c.in_ok-answer.answer)) c.args.slot c.args.what.now (gives c.in_ok-answer.answer) c.args.machine.now c.count_turn.new.self (g.R.Handlers.slots c.args.rack.now) (g.R.Handlers.slots c.call.new.self) refl c.count_turn.ensures.room
+    (call_answered c.args.machine.now c.count_turn.new.self (g.R.Handlers.slots c.args.rack.now) (g.R.Handlers.slots c.call.new.self) c.args.slot c.args.what.now c.in_ok-answer.answer
+    (omega (arith, (ap (λ (k : Course). k.state.turns) c.machine.view_is), c.machine.invariant.turns, c.if-number-eq-MOST_TURNS.false))
+    (subst (λ (n : ℕ). CallsHandler (g.R.Handlers.slots c.args.rack.now) (g.R.Handlers.slots c.call.new.self) c.args.slot n c.args.what.now (Ok c.in_ok-answer.answer)) (ap (λ (k : Course). k.state.turns) c.machine.view_is) c.in_ok-answer.ensures)
+    c.count_turn.ensures.counted)
+
+pub returns-in_err-answer : goal.returns-in_err-answer
+returns-in_err-answer g c =
+    let p = err_from_is_err_and c.from_residual.result c.from_residual.ensures.1 in
+    rw (p.1, p.2)
+    (calls_for (λ called. ComesAs called (Err outcome.Memory)) c.args.slot c.args.what.now no_memory c.args.machine.now c.args.machine.now (g.R.Handlers.slots c.args.rack.now) (g.R.Handlers.slots c.call.new.self) refl tt
+    (call_missed c.args.machine.now (g.R.Handlers.slots c.args.rack.now) (g.R.Handlers.slots c.call.new.self) c.args.slot c.args.what.now c.in_err-answer.field-0.0
+    (omega (arith, (ap (λ (k : Course). k.state.turns) c.machine.view_is), c.machine.invariant.turns, c.if-number-eq-MOST_TURNS.false))
+    (subst (λ (n : ℕ). CallsHandler (g.R.Handlers.slots c.args.rack.now) (g.R.Handlers.slots c.call.new.self) c.args.slot n c.args.what.now (Err c.in_err-answer.field-0.0)) (ap (λ (k : Course). k.state.turns) c.machine.view_is) c.in_err-answer.ensures)))

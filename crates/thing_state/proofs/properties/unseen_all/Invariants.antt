@@ -1,0 +1,7 @@
+use Rattle.std.proofs.Common.{◌≡◌, ◌++◌, drop, map}
+use Rattle.thing_state.specs.State.{properties_of, unseen}
+use Rattle.thing_state.proofs.properties.unseen_all.Given as goal
+
+abbrev pub invariant-loop-thing : goal.invariant-loop-thing
+invariant-loop-thing l =
+    l.versions.items ++ map unseen (properties_of (drop l.thing-index l.things)) ≡ map unseen (properties_of l.things)

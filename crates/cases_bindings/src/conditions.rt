@@ -1,9 +1,9 @@
 //! The conditions of requests on the version of a property: of HTTP by the lines after Host, of CoAP by the options of
 //! a message in words.
 
-use cases_notation::{bytes_of, message_of};
-use coap_msg::{Message, decode};
-use coap_opts::{AskFault, request_of};
+use crate::asks::put_of_message;
+use cases_notation::bytes_of;
+use coap_opts::CoapAsk;
 use http_wire::{Head, Scanned, scan, verb_of};
 use std::alloc::{AllocError, Global};
 use std::fmt::Write;
@@ -107,27 +107,12 @@ pub fn put_of_lines(text: &mut String, alloc: Global, given: &str) -> Result<(),
     )
 }
 
-/// Writes the conditions of a message, or the fault of its options.
-fn put_asked(text: &mut String, alloc: Global, message: &Message<'_>) -> Result<(), AllocError> {
-    if message.code == 0 || message.code >= 32 {
-        return text.push_str("no request");
-    }
-    match request_of(alloc, message) {
-        Ok(ask) => put_conditions(text, &ask.request.conditions),
-        Err(AskFault::NoMemory) => Err(AllocError),
-        Err(fault) => write!(text, "{fault:?}"),
-    }
+/// Writes the conditions of an ask.
+fn put_ask(text: &mut String, ask: &CoapAsk<'_>) -> Result<(), AllocError> {
+    put_conditions(text, &ask.request.conditions)
 }
 
-/// Writes the conditions of a message's bytes.
-fn put_decoded(text: &mut String, alloc: Global, bytes: &[u8]) -> Result<(), AllocError> {
-    match decode(bytes) {
-        Ok(message) => put_asked(text, alloc, &message),
-        Err(fault) => write!(text, "{fault:?}"),
-    }
-}
-
-/// Writes the conditions of the options of a CoAP request.
+/// Writes the conditions of the options of a CoAP request, or their fault.
 pub fn put_of_options(text: &mut String, alloc: Global, given: &str) -> Result<(), AllocError> {
-    put_decoded(text, alloc, message_of(alloc, given)?.as_slice())
+    put_of_message(text, alloc, given, put_ask)
 }

@@ -15,10 +15,8 @@
 ghost use Rattle.std.specs.Prelude.{◌≤◌, ◌<◌, IfSome, length};
 ghost use Rattle.http_bind.specs.Slots.{IsWaiting, longest_text};
 
-use crate::exchanges::put_words;
-use crate::runs;
 use crate::talk::{Talk, handle, wake};
-use cases_notation::{bytes_of, number};
+use cases_notation::{bytes_of, number, put_rows, put_runs};
 use http_bind::{HttpBind, new_room};
 use std::alloc::{AllocError, Global};
 use std::fmt::Write;
@@ -187,7 +185,7 @@ fn put_woken(
     if let Some(c) = c {
         wake(http, c, told, talk)?;
         text.push_str(" ")?;
-        runs::put(text, talk.sent.as_slice())?;
+        put_runs(text, talk.sent.as_slice())?;
     }
     Ok(())
 }
@@ -232,10 +230,10 @@ fn put_act(
 ) -> Result<(), AllocError> {
     let mut room = new_room(alloc)?;
     act_as_told(alloc, http, talk, room.as_mut_slice(), step)?;
-    runs::put(text, talk.sent.as_slice())
+    put_runs(text, talk.sent.as_slice())
 }
 
-/// Writes a step and its result.
+/// Does a step, and writes its result.
 fn put_step(
     text: &mut String,
     alloc: Global,
@@ -243,19 +241,16 @@ fn put_step(
     talk: &mut Talk,
     line: &str,
 ) -> Result<(), AllocError> {
-    text.push_str(line)?;
-    text.push_str(" => ")?;
     let step = step_of(line);
     talk.now = step.now;
     match step.word {
-        "idle" => put_connection(text, http.idle(step.now))?,
-        "late" => put_connection(text, http.late(step.now))?,
-        "waiting" => put_connection(text, http.waiting(target_of(step)))?,
-        "expires" => put_expiry(text, http, talk)?,
-        "wakes" => put_wakes(text, alloc, http, talk, step)?,
-        _ => put_act(text, alloc, http, talk, step)?,
+        "idle" => put_connection(text, http.idle(step.now)),
+        "late" => put_connection(text, http.late(step.now)),
+        "waiting" => put_connection(text, http.waiting(target_of(step))),
+        "expires" => put_expiry(text, http, talk),
+        "wakes" => put_wakes(text, alloc, http, talk, step),
+        _ => put_act(text, alloc, http, talk, step),
     }
-    text.push_str("\n")
 }
 
 /// Goes through the steps of a history. All is lent, since a function pays at each early exit for what it owns.
@@ -267,13 +262,11 @@ fn put_steps(
     history: &str,
 ) -> Result<(), AllocError> {
     talk.begin()?;
-    for line in history.lines() {
-        match line.split_once(" => ") {
-            Some((step, _wanted)) => put_step(text, alloc, http, talk, step)?,
-            None => put_words(text, line)?,
-        }
-    }
-    Ok(())
+    put_rows(
+        text,
+        history,
+        |text, step| put_step(text, alloc, http, talk, step),
+    )
 }
 
 pub fn put(text: &mut String, alloc: Global, history: &str) -> Result<(), AllocError> {

@@ -8,12 +8,13 @@ ghost use Rattle.std.specs.Prelude.{◌≤◌};
 ghost use Rattle.thing_ops.specs.Outcomes.{HasCode};
 ghost use Rattle.coap_bind.specs.Laws.{HasShortPlace};
 
-use crate::exchanges::{endpoint_of, put_words};
 use crate::observers::target_of;
 use crate::outcomes::outcome_of;
 use crate::targets::put_path;
-use crate::{crowds, notifications, runs, transfers};
-use cases_notation::{bytes_of, message_of, number, put_message};
+use crate::{crowds, notifications, transfers};
+use cases_notation::{
+    bytes_of, endpoint_of, message_of, number, put_given, put_message, put_plain_runs, put_words,
+};
 use coap_bind::{CoapBind, CoapNext};
 use coap_msg::{Endpoint, LONGEST_DATAGRAM, LONGEST_MESSAGE, decode};
 use coap_opts::CoapAsk;
@@ -39,7 +40,7 @@ pub fn put_sent(text: &mut String, bytes: &[u8]) -> Result<(), AllocError> {
     let rest = bytes.len().saturating_sub(payload.len()).saturating_sub(1);
     put_message(text, bytes.get(..rest).unwrap_or(b""))?;
     text.push_str(" ")?;
-    runs::put_plain(text, payload)
+    put_plain_runs(text, payload)
 }
 
 /// Writes an ask.
@@ -48,7 +49,7 @@ fn put_ask(text: &mut String, ask: &CoapAsk<'_>) -> Result<(), AllocError> {
     put_path(text, &ask.request.path)?;
     if !ask.request.body.is_empty() {
         text.push_str(" ")?;
-        runs::put_plain(text, ask.request.body)?;
+        put_plain_runs(text, ask.request.body)?;
     }
     if let Some(number) = ask.observe {
         write!(text, " observe {number}")?;
@@ -186,8 +187,7 @@ fn put_step(
     requires { server.old.exchanges.moment ≤ now }
     ensures { server.new.exchanges.moment ≤ now }
 {
-    text.push_str(step)?;
-    text.push_str(" => ")?;
+    put_given(text, step)?;
     put_done_by(text, alloc, server, step, now)?;
     text.push_str("\n")
 }

@@ -5,8 +5,7 @@ ghost use Rattle.std.specs.Prelude.{◌≡◌, ◌≤◌, ◌⊎◌};
 ghost use Rattle.coap_exchange.specs.Table.{IsAwaited};
 ghost use Rattle.coap_msg.specs.declared.message.Type4.TheVariants.{Con, Non};
 
-use crate::runs;
-use cases_notation::{bytes_of, number};
+use cases_notation::{bytes_of, endpoint_of, number, put_given, put_runs, put_words, small_number};
 use coap_exchange::{Exchanges, Met};
 use coap_msg::{Endpoint, LONGEST_MESSAGE, Type4};
 use std::alloc::{AllocError, Global};
@@ -19,20 +18,6 @@ struct Arrival<'a> {
     kind: &'a str,
     id: u16,
     reply: &'a str,
-}
-
-/// A number of 16 bits.
-fn small_number(field: Option<&str>) -> u16 {
-    u16::try_from(number(field)).unwrap_or(0)
-}
-
-/// The endpoint of a word, as `host1:5684`; without a port it is 5683.
-pub fn endpoint_of(word: &str) -> Endpoint {
-    let (host, port) = word.split_once(':').unwrap_or((word, "5683"));
-    Endpoint {
-        host: u128::from(number(host.strip_prefix("host"))),
-        port: small_number(Some(port)),
-    }
 }
 
 /// The request of a step.
@@ -92,7 +77,7 @@ fn put_met(
         Met::Repeat(None) => text.push_str("a duplicate without a reply"),
         Met::Repeat(Some(slot)) => {
             text.push_str("a duplicate of ")?;
-            runs::put(text, exchanges.reply(slot))
+            put_runs(text, exchanges.reply(slot))
         }
         Met::Full => text.push_str("full"),
     }
@@ -109,15 +94,8 @@ fn put_step(
     requires { exchanges.old.moment ≤ now }
     ensures { exchanges.new.moment ≤ now }
 {
-    text.push_str(step)?;
-    text.push_str(" => ")?;
+    put_given(text, step)?;
     put_met(text, alloc, exchanges, arrival_of(step), now)?;
-    text.push_str("\n")
-}
-
-/// Writes a line that is no step.
-pub fn put_words(text: &mut String, line: &str) -> Result<(), AllocError> {
-    text.push_str(line)?;
     text.push_str("\n")
 }
 

@@ -16,6 +16,7 @@ mod connections;
 mod crowds;
 mod datagrams;
 mod exchanges;
+mod findings;
 mod fronts;
 mod ids;
 mod messages;
@@ -25,14 +26,14 @@ mod outcomes;
 mod places;
 mod replies;
 mod reply_fronts;
-mod runs;
 mod streams;
 mod talk;
 mod targets;
 mod transfers;
 
+use cases_notation::{bytes_of, print_files, put_histories, put_rows};
 use std::alloc::{AllocError, Global};
-use std::{env, fs, io};
+use std::io;
 
 /// Writes the result of these bytes in this table.
 fn put_said(text: &mut String, alloc: Global, table: &str, bytes: &[u8]) -> Result<(), AllocError> {
@@ -55,39 +56,8 @@ fn put_row(text: &mut String, alloc: Global, table: &str, given: &str) -> Result
         "conditions" => conditions::put_of_lines(text, alloc, given),
         "versions" => conditions::put_of_options(text, alloc, given),
         "streams" => streams::put(text, alloc, given),
-        _ => put_said(
-            text,
-            alloc,
-            table,
-            cases_notation::bytes_of(alloc, given)?.as_slice(),
-        ),
+        _ => put_said(text, alloc, table, bytes_of(alloc, given)?.as_slice()),
     }
-}
-
-/// Writes a row up to its result.
-fn put_given(text: &mut String, given: &str) -> Result<(), AllocError> {
-    text.push_str(given)?;
-    text.push_str(" => ")
-}
-
-/// Writes a row with its result, and a line that is no row as it is.
-fn put_line(text: &mut String, alloc: Global, table: &str, line: &str) -> Result<(), AllocError> {
-    match line.split_once(" => ") {
-        Some((given, _wanted)) => {
-            put_given(text, given)?;
-            put_row(text, alloc, table, given)?;
-        }
-        None => text.push_str(line)?,
-    }
-    text.push_str("\n")
-}
-
-/// Rows that stand alone.
-fn put_rows(text: &mut String, alloc: Global, table: &str, lines: &str) -> Result<(), AllocError> {
-    for line in lines.lines() {
-        put_line(text, alloc, table, line)?;
-    }
-    Ok(())
 }
 
 /// A history of a table whose rows are steps.
@@ -105,24 +75,8 @@ fn put_history(
     }
 }
 
-/// Histories, with an empty line between them.
-fn put_histories(
-    text: &mut String,
-    alloc: Global,
-    table: &str,
-    lines: &str,
-) -> Result<(), AllocError> {
-    for (index, history) in lines.split("\n\n").enumerate() {
-        if index > 0 {
-            text.push_str("\n")?;
-        }
-        put_history(text, alloc, table, history)?;
-    }
-    Ok(())
-}
-
-/// The lines of a table.
-fn put_table(text: &mut String, alloc: Global, table: &str, lines: &str) -> Result<(), AllocError> {
+/// Writes the lines of a table.
+fn put_file(text: &mut String, alloc: Global, table: &str, lines: &str) -> Result<(), AllocError> {
     match table {
         "exchanges"
         | "watchers"
@@ -131,27 +85,21 @@ fn put_table(text: &mut String, alloc: Global, table: &str, lines: &str) -> Resu
         | "blocks"
         | "links"
         | "connections"
-        | "tagged" => { put_histories(text, alloc, table, lines) }
-        _ => put_rows(text, alloc, table, lines),
+        | "tagged" => {
+            put_histories(
+                text,
+                lines,
+                |text, history| put_history(text, alloc, table, history),
+            )
+        }
+        _ => put_rows(
+            text,
+            lines,
+            |text, given| put_row(text, alloc, table, given),
+        ),
     }
-}
-
-/// The same as a text of its own.
-fn page(alloc: Global, table: &str, lines: &str) -> Result<String, AllocError> {
-    let mut text = String::new(alloc);
-    put_table(&mut text, alloc, table, lines)?;
-    Ok(text)
-}
-
-/// Prints a table.
-fn print(rt: &HostRuntime, table: &str) -> io::Result<()> {
-    let lines = fs::read_to_string(rt, table)?;
-    rt.print(page(rt.alloc(), table, lines.as_str())?)
 }
 
 fn main(rt: HostRuntime) -> io::Result<()> {
-    for table in env::args(&rt)?.skip(1) {
-        print(&rt, table.as_str())?;
-    }
-    Ok(())
+    print_files(&rt, put_file)
 }

@@ -1,7 +1,6 @@
 //! CoAP messages: bytes, and the result of `decode`.
 
-use crate::runs;
-use cases_notation::put_digits;
+use cases_notation::{put_digits, put_runs};
 use coap_msg::{Message, decode};
 use std::alloc::AllocError;
 use std::fmt::Write;
@@ -9,7 +8,7 @@ use std::fmt::Write;
 /// Writes an option.
 fn put_option(text: &mut String, number: u16, value: &[u8]) -> Result<(), AllocError> {
     write!(text, " {number}=")?;
-    runs::put(text, value)
+    put_runs(text, value)
 }
 
 /// Type, code, message ID and token of a message, its options, and its payload.
@@ -27,7 +26,7 @@ fn put_message(text: &mut String, message: &Message<'_>) -> Result<(), AllocErro
         put_option(text, number, value)?;
     }
     text.push_str(" payload ")?;
-    runs::put(text, message.payload)
+    put_runs(text, message.payload)
 }
 
 pub fn put(text: &mut String, bytes: &[u8]) -> Result<(), AllocError> {

@@ -4,8 +4,7 @@
 
 ghost use Rattle.std.specs.Prelude.{◌≤◌, length};
 
-use crate::exchanges::{endpoint_of, put_words};
-use cases_notation::{bytes_of, number, put as put_bytes};
+use cases_notation::{bytes_of, endpoint_of, number, put as put_bytes, put_rows, small_number};
 use coap_msg::{Endpoint, LONGEST_TOKEN};
 use coap_observe::{Notice, Registered, Watchers};
 use std::alloc::{AllocError, Global};
@@ -17,11 +16,6 @@ const CAPACITY: u32 = 4;
 /// The target of a field.
 pub fn target_of(field: Option<&str>) -> u32 {
     u32::try_from(number(field)).unwrap_or(0)
-}
-
-/// The message ID of a field.
-fn id_of(field: Option<&str>) -> u16 {
-    u16::try_from(number(field)).unwrap_or(0)
 }
 
 /// Writes the outcome of a registration.
@@ -110,7 +104,7 @@ fn put_plain(text: &mut String, observers: &mut Watchers, step: &str) -> Result<
     let mut fields = step.split(' ');
     let word = fields.next().unwrap_or("");
     let first = fields.next();
-    let id = id_of(fields.next());
+    let id = small_number(fields.next());
     match word {
         "acked" => put_found(text, observers.acked(endpoint_of(first.unwrap_or("")), id)),
         "reset" => put_found(text, observers.reset(endpoint_of(first.unwrap_or("")), id)),
@@ -123,22 +117,18 @@ fn put_plain(text: &mut String, observers: &mut Watchers, step: &str) -> Result<
     }
 }
 
-/// Writes a step and its result.
+/// Writes the result of a step.
 fn put_step(
     text: &mut String,
     alloc: Global,
     observers: &mut Watchers,
     step: &str,
 ) -> Result<(), AllocError> {
-    text.push_str(step)?;
-    text.push_str(" => ")?;
     if step.starts_with("register") || step.starts_with("again") || step.starts_with("cancel") {
         let token = bytes_of(alloc, step.split(' ').nth(2).unwrap_or("-"))?;
-        put_named(text, observers, step, token.as_slice())?;
-    } else {
-        put_plain(text, observers, step)?;
+        return put_named(text, observers, step, token.as_slice());
     }
-    text.push_str("\n")
+    put_plain(text, observers, step)
 }
 
 /// The number of observers that there may be in a history.
@@ -156,11 +146,9 @@ fn capacity_of(history: &str) -> u32
 
 pub fn put(text: &mut String, alloc: Global, history: &str) -> Result<(), AllocError> {
     let mut observers = Watchers::new(alloc, capacity_of(history))?;
-    for line in history.lines() {
-        match line.split_once(" => ") {
-            Some((step, _wanted)) => put_step(text, alloc, &mut observers, step)?,
-            None => put_words(text, line)?,
-        }
-    }
-    Ok(())
+    put_rows(
+        text,
+        history,
+        |text, step| put_step(text, alloc, &mut observers, step),
+    )
 }

@@ -5,8 +5,7 @@ ghost use Rattle.std.specs.Prelude.{◌<◌};
 ghost use Rattle.http_bind.specs.Slots.{IsOwed};
 
 use crate::outcomes::{copied, number_in, outcome_of};
-use crate::runs;
-use cases_notation::bytes_of;
+use cases_notation::{bytes_of, put_plain_runs};
 use http_bind::{HttpBind, HttpNext, HttpOut, new_room};
 use std::alloc::{AllocError, Global};
 use thing_ops::{Outcome, Segments};
@@ -48,8 +47,8 @@ pub fn put_out(text: &mut String, out: &HttpOut<'_>) -> Result<(), AllocError> {
     if out.waits {
         text.push_str("waits")?;
     }
-    runs::put_plain(text, out.head)?;
-    runs::put_plain(text, out.body)?;
+    put_plain_runs(text, out.head)?;
+    put_plain_runs(text, out.body)?;
     if out.close {
         text.push_str("<closed>")?;
     }

@@ -1,7 +1,7 @@
 //! Heads of HTTP replies: the status, and those of `type`, `etag`, `location`, `allow`, `length` and `close` that a
 //! reply has, each after ` | `; and the bytes of the head.
 
-use crate::runs;
+use cases_notation::put_runs;
 use http_wire::{Reply, has_reason, put_reply};
 use std::alloc::AllocError;
 
@@ -72,7 +72,7 @@ fn put_head(text: &mut String, reply: &Reply<'_>) -> Result<(), AllocError> {
     let Some(size) = put_reply(reply, &mut out) else {
         return text.push_str("no room");
     };
-    runs::put(text, out.get(..size).unwrap_or(b""))?;
+    put_runs(text, out.get(..size).unwrap_or(b""))?;
     let just = out.get_mut(..size).unwrap_or(&mut []);
     if put_reply(reply, just) != Some(size) {
         return text.push_str(" and it doesn't fit into that");

@@ -4,9 +4,8 @@
 ghost use Rattle.std.specs.Prelude.{◌<◌, ◌≤◌, OnOk, length};
 ghost use Rattle.http_bind.specs.Slots.{HasRoom};
 
-use crate::runs;
 use crate::talk::{Talk, handle};
-use cases_notation::bytes_of;
+use cases_notation::{bytes_of, put_runs};
 use http_bind::{HttpBind, new_room};
 use std::alloc::{AllocError, Global};
 use std::fmt::Write;
@@ -189,7 +188,7 @@ fn put_stream(
         stream,
         sent: talk.sent.as_slice(),
     };
-    runs::put(text, wanted.sent)?;
+    put_runs(text, wanted.sent)?;
     put_pieces(text, alloc, wanted, 1)?;
     put_pieces(text, alloc, wanted, 7)?;
     put_cuts(text, alloc, wanted, is_twice)

@@ -1,6 +1,6 @@
 //! Request targets: bytes, their paths, and the places at which their queries begin.
 
-use crate::runs;
+use cases_notation::put_plain_runs;
 use http_wire::{TargetFault, segments};
 use std::alloc::{AllocError, Global};
 use std::fmt::Write;
@@ -9,7 +9,7 @@ use thing_ops::Segments;
 /// A segment in brackets.
 fn put_segment(text: &mut String, segment: &[u8]) -> Result<(), AllocError> {
     text.push_str("[")?;
-    runs::put_plain(text, segment)?;
+    put_plain_runs(text, segment)?;
     text.push_str("]")
 }
 

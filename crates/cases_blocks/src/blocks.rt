@@ -1,8 +1,8 @@
 //! Values of Block options: `read BYTES`, and the block that they say; `write NUMBER more|last SZX`, and the bytes that
 //! are written.
 
-use crate::fields::{block_of, put_block, put_given, put_runs, put_words};
-use cases_notation::bytes_of;
+use crate::fields::{block_of, put_block};
+use cases_notation::{bytes_of, put_rows, put_runs};
 use coap_msg::{Block, read_block, write_block};
 use std::alloc::{AllocError, Global};
 
@@ -31,21 +31,13 @@ fn put_written(text: &mut String, given: &str) -> Result<(), AllocError> {
 
 /// Writes the result of a row.
 fn put_row(text: &mut String, alloc: Global, given: &str) -> Result<(), AllocError> {
-    put_given(text, given)?;
     match given.strip_prefix("read ") {
-        Some(bytes) => put_read(text, read_block(bytes_of(alloc, bytes)?.as_slice()))?,
-        None => put_written(text, given)?,
+        Some(bytes) => put_read(text, read_block(bytes_of(alloc, bytes)?.as_slice())),
+        None => put_written(text, given),
     }
-    text.push_str("\n")
 }
 
 /// The rows of the table.
 pub fn put(text: &mut String, alloc: Global, rows: &str) -> Result<(), AllocError> {
-    for line in rows.lines() {
-        match line.split_once(" => ") {
-            Some((given, _wanted)) => put_row(text, alloc, given)?,
-            None => put_words(text, line)?,
-        }
-    }
-    Ok(())
+    put_rows(text, rows, |text, given| put_row(text, alloc, given))
 }

@@ -4,8 +4,8 @@
 ghost use Rattle.std.specs.Prelude.{◌≤◌};
 ghost use Rattle.coap_blocks.specs.Paths.{path_size};
 
-use crate::fields::{code_of, endpoint_of, path_of, put_given, put_runs, put_words, small_number};
-use cases_notation::{bytes_of, number};
+use crate::fields::{code_of, path_of};
+use cases_notation::{bytes_of, endpoint_of, number, put_rows, put_runs, small_number};
 use coap_blocks::{Bodies, Whole};
 use coap_msg::Endpoint;
 use std::alloc::{AllocError, Global};
@@ -93,28 +93,22 @@ fn put_step(
     let word = fields.next().unwrap_or("");
     let head = Head {
         moment,
-        from: endpoint_of(fields.next()),
+        from: endpoint_of(fields.next().unwrap_or("")),
     };
     let path = path_of(alloc, fields.next())?;
     if word == "put" {
         keep(alloc, bodies, head, &path, fields.next().unwrap_or(""))?;
-        return text.push_str("done\n");
+        return text.push_str("done");
     }
-    put_got(text, bodies.get(head.from, &path, head.moment))?;
-    text.push_str("\n")
+    put_got(text, bodies.get(head.from, &path, head.moment))
 }
 
 /// A history.
 pub fn put(text: &mut String, alloc: Global, history: &str) -> Result<(), AllocError> {
     let mut bodies = Bodies::new(alloc)?;
-    for line in history.lines() {
-        match line.split_once(" => ") {
-            Some((step, _wanted)) => {
-                put_given(text, step)?;
-                put_step(text, alloc, &mut bodies, step)?;
-            }
-            None => put_words(text, line)?,
-        }
-    }
-    Ok(())
+    put_rows(
+        text,
+        history,
+        |text, step| put_step(text, alloc, &mut bodies, step),
+    )
 }

@@ -13,56 +13,20 @@ mod fields;
 mod parts;
 mod transfers;
 
+use cases_notation::{print_files, put_histories};
 use std::alloc::{AllocError, Global};
-use std::{env, fs, io};
+use std::io;
 
-/// A history of a table.
-fn put_history(
-    text: &mut String,
-    alloc: Global,
-    table: &str,
-    history: &str,
-) -> Result<(), AllocError> {
-    match table {
+/// Writes the histories of a table.
+fn put_file(text: &mut String, alloc: Global, table: &str, lines: &str) -> Result<(), AllocError> {
+    put_histories(text, lines, |text, history| match table {
         "bodies" => bodies::put(text, alloc, history),
         "parts" => parts::put(text, alloc, history),
         "transfers" => transfers::put(text, alloc, history),
         _ => blocks::put(text, alloc, history),
-    }
-}
-
-/// Histories, with an empty line between them.
-fn put_histories(
-    text: &mut String,
-    alloc: Global,
-    table: &str,
-    lines: &str,
-) -> Result<(), AllocError> {
-    for (index, history) in lines.split("\n\n").enumerate() {
-        if index > 0 {
-            text.push_str("\n")?;
-        }
-        put_history(text, alloc, table, history)?;
-    }
-    Ok(())
-}
-
-/// A file as a text of its own.
-fn page(alloc: Global, table: &str, lines: &str) -> Result<String, AllocError> {
-    let mut text = String::new(alloc);
-    put_histories(&mut text, alloc, table, lines)?;
-    Ok(text)
-}
-
-/// Prints a file.
-fn print(rt: &HostRuntime, table: &str) -> io::Result<()> {
-    let lines = fs::read_to_string(rt, table)?;
-    rt.print(page(rt.alloc(), table, lines.as_str())?)
+    })
 }
 
 fn main(rt: HostRuntime) -> io::Result<()> {
-    for table in env::args(&rt)?.skip(1) {
-        print(&rt, table.as_str())?;
-    }
-    Ok(())
+    print_files(&rt, put_file)
 }

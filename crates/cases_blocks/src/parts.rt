@@ -5,8 +5,8 @@ ghost use Rattle.std.specs.Prelude.{◌≡◌, ◌≤◌, ◌<◌, ℕ, length};
 ghost use Rattle.coap_msg.specs.Blocks.{IsBlock};
 ghost use Rattle.coap_blocks.specs.Paths.{path_size};
 
-use crate::fields::{block_of, code_of, endpoint_of, path_of, put_given, put_runs, put_words};
-use cases_notation::{bytes_of, number};
+use crate::fields::{block_of, code_of, path_of};
+use cases_notation::{bytes_of, endpoint_of, number, put_rows, put_runs};
 use coap_blocks::{Added, Parts};
 use coap_msg::{Block, Endpoint};
 use std::alloc::{AllocError, Global};
@@ -78,7 +78,7 @@ fn put_step(
     let mut fields = step.split(' ');
     let moment = number(fields.next());
     let acts = fields.next() == Some("act");
-    let from = endpoint_of(fields.next());
+    let from = endpoint_of(fields.next().unwrap_or(""));
     let code = code_of(fields.next());
     let path = path_of(alloc, fields.next())?;
     let number = fields.next();
@@ -103,15 +103,9 @@ fn put_step(
 /// A history.
 pub fn put(text: &mut String, alloc: Global, history: &str) -> Result<(), AllocError> {
     let mut parts = Parts::new(alloc)?;
-    for line in history.lines() {
-        match line.split_once(" => ") {
-            Some((step, _wanted)) => {
-                put_given(text, step)?;
-                put_step(text, alloc, &mut parts, step)?;
-                text.push_str("\n")?;
-            }
-            None => put_words(text, line)?,
-        }
-    }
-    Ok(())
+    put_rows(
+        text,
+        history,
+        |text, step| put_step(text, alloc, &mut parts, step),
+    )
 }

@@ -4,8 +4,8 @@
 ghost use Rattle.std.specs.Prelude.{IfSome};
 ghost use Rattle.coap_msg.specs.Blocks.{IsBlock};
 
-use crate::fields::{block_of, put_block, put_given, put_runs, put_words};
-use cases_notation::bytes_of;
+use crate::fields::{block_of, put_block};
+use cases_notation::{bytes_of, put_rows, put_runs};
 use coap_client::{Taken, Transfer};
 use coap_msg::Block;
 use std::alloc::{AllocError, Global};
@@ -64,15 +64,9 @@ fn put_step(
 /// A history.
 pub fn put(text: &mut String, alloc: Global, history: &str) -> Result<(), AllocError> {
     let mut transfer = Transfer::new(alloc)?;
-    for line in history.lines() {
-        match line.split_once(" => ") {
-            Some((step, _wanted)) => {
-                put_given(text, step)?;
-                put_step(text, alloc, &mut transfer, step)?;
-                text.push_str("\n")?;
-            }
-            None => put_words(text, line)?,
-        }
-    }
-    Ok(())
+    put_rows(
+        text,
+        history,
+        |text, step| put_step(text, alloc, &mut transfer, step),
+    )
 }

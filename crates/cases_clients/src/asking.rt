@@ -4,7 +4,7 @@ ghost use Rattle.std.specs.Prelude.{◌≤◌, ◌≢◌, ◌<◌, length, All, 
 ghost use Rattle.coap_msg.specs.Blocks.{IsBlock};
 ghost use Rattle.coap_client.specs.Asking.{MayAsk, asking_of};
 
-use cases_notation::{bytes_of, number, put_message};
+use cases_notation::{bytes_of, endpoint_of, format_of, number, option_of, put_message};
 use coap_client::{Ask, Client};
 use coap_msg::{Block, Endpoint, LONGEST_MESSAGE};
 use std::alloc::{AllocError, Global};
@@ -24,40 +24,12 @@ pub struct Asked<'a> {
     payload: &'a str,
 }
 
-/// The endpoint of a word, as `host1:5684`; without a port it is 5683.
-pub fn endpoint_of(word: &str) -> Endpoint {
-    let (host, port) = word.split_once(':').unwrap_or((word, "5683"));
-    Endpoint {
-        host: u128::from(number(host.strip_prefix("host"))),
-        port: u16::try_from(number(Some(port))).unwrap_or(0),
-    }
-}
-
 /// Whether to observe.
 fn observe_of(word: &str) -> Option<bool> {
     match word {
         "observe" => Some(true),
         "unobserve" => Some(false),
         _ => None,
-    }
-}
-
-/// The number of the option of this name at the beginning of these words, if it is there, and what comes after it.
-fn option_of<'a>(name: &str, words: &'a str) -> (Option<&'a str>, &'a str) {
-    match words.strip_prefix(name) {
-        Some(rest) => {
-            let (digits, payload) = rest.split_once(' ').unwrap_or((rest, "-"));
-            (Some(digits), payload)
-        }
-        None => (None, words),
-    }
-}
-
-/// The content format of these digits.
-fn format_of(digits: Option<&str>) -> Option<u16> {
-    match digits {
-        Some(digits) => digits.parse::<u16>().ok(),
-        None => None,
     }
 }
 

@@ -2,8 +2,8 @@
 
 ghost use Rattle.std.specs.Prelude.{◌≤◌};
 
-use crate::asking::{endpoint_of, put_sent};
-use cases_notation::{message_of, put as put_bytes};
+use crate::asking::put_sent;
+use cases_notation::{endpoint_of, message_of, put as put_bytes};
 use coap_client::{Client, Due, News};
 use coap_msg::{Block, Endpoint, LONGEST_MESSAGE};
 use std::alloc::{AllocError, Global};

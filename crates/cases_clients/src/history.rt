@@ -4,7 +4,7 @@ ghost use Rattle.std.specs.Prelude.{◌≤◌};
 
 use crate::asking::asked_of;
 use crate::{asking, hearing, resetting};
-use cases_notation::number;
+use cases_notation::{number, put_given, put_words};
 use coap_client::Client;
 use std::alloc::{AllocError, Global};
 
@@ -60,15 +60,8 @@ fn put_step(
     requires { client.old.moment ≤ now }
     ensures { client.new.moment ≤ now }
 {
-    text.push_str(line)?;
-    text.push_str(" => ")?;
+    put_given(text, line)?;
     put_done(text, alloc, client, step_of(line), now)?;
-    text.push_str("\n")
-}
-
-/// Writes a line that is no step.
-fn put_words(text: &mut String, line: &str) -> Result<(), AllocError> {
-    text.push_str(line)?;
     text.push_str("\n")
 }
 

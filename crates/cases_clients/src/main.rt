@@ -28,40 +28,26 @@ mod network;
 mod resetting;
 mod tables;
 
+use cases_notation::{print_files, put_histories, put_rows_about};
 use std::alloc::{AllocError, Global};
-use std::{env, fs, io};
+use std::io;
 
-/// Histories, with an empty line between them.
-fn put_histories(text: &mut String, alloc: Global, lines: &str) -> Result<(), AllocError> {
-    for (index, lines) in lines.split("\n\n").enumerate() {
-        if index > 0 {
-            text.push_str("\n")?;
-        }
-        history::put(text, alloc, lines)?;
-    }
-    Ok(())
-}
-
-/// A file as a text of its own.
-fn page(alloc: Global, name: &str, lines: &str) -> Result<String, AllocError> {
-    let mut text = String::new(alloc);
+/// Writes a file with what comes of it.
+fn put_file(text: &mut String, alloc: Global, name: &str, lines: &str) -> Result<(), AllocError> {
     if tables::is_table(name) {
-        tables::put(&mut text, alloc, name, lines)?;
-    } else {
-        put_histories(&mut text, alloc, lines)?;
+        return put_rows_about(
+            text,
+            lines,
+            |text, row| tables::put_row(text, alloc, name, row),
+        );
     }
-    Ok(text)
-}
-
-/// Prints a file.
-fn print(rt: &HostRuntime, name: &str) -> io::Result<()> {
-    let lines = fs::read_to_string(rt, name)?;
-    rt.print(page(rt.alloc(), name, lines.as_str())?)
+    put_histories(
+        text,
+        lines,
+        |text, history| history::put(text, alloc, history),
+    )
 }
 
 fn main(rt: HostRuntime) -> io::Result<()> {
-    for name in env::args(&rt)?.skip(1) {
-        print(&rt, name.as_str())?;
-    }
-    Ok(())
+    print_files(&rt, put_file)
 }

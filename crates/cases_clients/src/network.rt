@@ -14,8 +14,7 @@
 
 ghost use Rattle.servient_outside.specs.Network.{MayCome};
 
-use crate::asking::endpoint_of;
-use cases_notation::{bytes_of, message_of, number};
+use cases_notation::{bytes_of, endpoint_of, message_of, number};
 use servient_outside::{Calls, Event, EventWithBytes, Events, NetMemory, What};
 use std::alloc::{AllocError, Global};
 use wot_json::Bytes;

@@ -1,7 +1,7 @@
 //! Histories of one device.
 
 use crate::readings::Readings;
-use cases_notation::bytes_of;
+use cases_notation::{bytes_of, put_given, put_words};
 use file_devices::{DeviceEntry, DeviceFilesMemory, Notation, SlotHandler, file_handler};
 use servient_outside::{Calls, Held, HeldFile};
 use std::alloc::{AllocError, Global};
@@ -197,8 +197,7 @@ fn device_in(alloc: Global, block: &str) -> Result<Option<Device>, AllocError> {
 fn put_setting(text: &mut String, block: &str) -> Result<(), AllocError> {
     for line in block.lines() {
         if line.split_once(" => ").is_none() {
-            text.push_str(line)?;
-            text.push_str("\n")?;
+            put_words(text, line)?;
         }
     }
     Ok(())
@@ -213,8 +212,7 @@ fn put_steps(
 ) -> Result<(), AllocError> {
     for line in block.lines() {
         if let Some((step, _wanted)) = line.split_once(" => ") {
-            text.push_str(step)?;
-            text.push_str(" => ")?;
+            put_given(text, step)?;
             put_step(text, alloc, device, step)?;
             text.push_str("\n")?;
         }
@@ -223,21 +221,10 @@ fn put_steps(
 }
 
 /// Writes a history with what comes of its steps.
-fn put_history(text: &mut String, alloc: Global, block: &str) -> Result<(), AllocError> {
+pub fn put_history(text: &mut String, alloc: Global, block: &str) -> Result<(), AllocError> {
     put_setting(text, block)?;
     match device_in(alloc, block)? {
         Some(mut device) => put_steps(text, alloc, &mut device, block),
         None => Ok(()),
     }
-}
-
-/// Writes the histories of a file, each with what comes of it.
-pub fn put_histories(text: &mut String, alloc: Global, lines: &str) -> Result<(), AllocError> {
-    for (place, block) in lines.split("\n\n").enumerate() {
-        if place > 0 {
-            text.push_str("\n")?;
-        }
-        put_history(text, alloc, block)?;
-    }
-    Ok(())
 }

@@ -19,44 +19,26 @@ mod entries;
 mod history;
 mod readings;
 
+use cases_notation::{print_files, put_histories, put_rows};
 use std::alloc::{AllocError, Global};
-use std::{env, fs, io};
+use std::io;
 
-/// Writes the rows of lists, each with its entries.
-fn put_rows(text: &mut String, alloc: Global, lines: &str) -> Result<(), AllocError> {
-    for line in lines.lines() {
-        match line.split_once(" => ") {
-            Some((given, _wanted)) => {
-                text.push_str(given)?;
-                text.push_str(" => ")?;
-                entries::put_entries(text, alloc, given)?;
-            }
-            None => text.push_str(line)?,
-        }
-        text.push_str("\n")?;
-    }
-    Ok(())
-}
-
-/// The cases of the file of this name, with their results.
-fn page(alloc: Global, table: &str, lines: &str) -> Result<String, AllocError> {
-    let mut text = String::new(alloc);
+/// Writes the cases of the file of this name, with their results.
+fn put_file(text: &mut String, alloc: Global, table: &str, lines: &str) -> Result<(), AllocError> {
     match table {
-        "entries" => put_rows(&mut text, alloc, lines)?,
-        _ => history::put_histories(&mut text, alloc, lines)?,
+        "entries" => put_rows(
+            text,
+            lines,
+            |text, given| entries::put_entries(text, alloc, given),
+        ),
+        _ => put_histories(
+            text,
+            lines,
+            |text, history| history::put_history(text, alloc, history),
+        ),
     }
-    Ok(text)
-}
-
-/// Prints a file with what comes of it.
-fn print(rt: &HostRuntime, table: &str) -> io::Result<()> {
-    let lines = fs::read_to_string(rt, table)?;
-    rt.print(page(rt.alloc(), table, lines.as_str())?)
 }
 
 fn main(rt: HostRuntime) -> io::Result<()> {
-    for table in env::args(&rt)?.skip(1) {
-        print(&rt, table.as_str())?;
-    }
-    Ok(())
+    print_files(&rt, put_file)
 }

@@ -1,9 +1,8 @@
 //! Files in memory: lines `file NAME BYTES` with the files, lines `fails N` with the calls that fail; and steps:
 //! `read NAME LIMIT`, or `reads` for the reads so far.
 
-use crate::lines::{fails_of, put_given, put_words, size_of};
-use crate::runs;
-use cases_notation::bytes_of;
+use crate::lines::{fails_of, size_of};
+use cases_notation::{bytes_of, put_rows, put_runs};
 use servient_outside::{FileRead, Files, FilesMemory, Got, Held, HeldFile};
 use std::alloc::{AllocError, Global};
 use std::fmt::Write;
@@ -35,7 +34,7 @@ pub fn put_got(text: &mut String, got: Got, bytes: &[u8]) -> Result<(), AllocErr
     write!(text, "{got:?}")?;
     if got == Got::Whole {
         text.push_str(" ")?;
-        return runs::put(text, bytes);
+        return put_runs(text, bytes);
     }
     if bytes.is_empty() {
         return Ok(());
@@ -72,21 +71,17 @@ fn put_step(
     files: &mut FilesMemory,
     step: &str,
 ) -> Result<(), AllocError> {
-    put_given(text, step)?;
     match step.split_once(' ') {
-        Some((_read, words)) => put_read(text, alloc, files, words)?,
-        None => put_reads(text, files.reads())?,
+        Some((_read, words)) => put_read(text, alloc, files, words),
+        None => put_reads(text, files.reads()),
     }
-    text.push_str("\n")
 }
 
 pub fn put(text: &mut String, alloc: Global, history: &str) -> Result<(), AllocError> {
     let mut files = FilesMemory::new(alloc, held_of(alloc, history)?, fails_of(alloc, history)?)?;
-    for line in history.lines() {
-        match line.split_once(" => ") {
-            Some((step, _wanted)) => put_step(text, alloc, &mut files, step)?,
-            None => put_words(text, line)?,
-        }
-    }
-    Ok(())
+    put_rows(
+        text,
+        history,
+        |text, step| put_step(text, alloc, &mut files, step),
+    )
 }

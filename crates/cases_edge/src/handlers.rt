@@ -3,7 +3,8 @@
 
 use crate::calls::{call_of, put_answer, put_call};
 use crate::devices::{Device, devices_of};
-use crate::lines::{put_given, put_words, size_of};
+use crate::lines::size_of;
+use cases_notation::put_rows;
 use std::alloc::{AllocError, Global};
 use std::fmt::Write;
 use thing_handler::{CallKind, Handler, Handlers, Rack, Turn};
@@ -74,31 +75,27 @@ struct Call {
     what: CallKind,
 }
 
-/// Does a step, and gives the number of the next turn.
+/// Does a step. A call takes the number of the next turn.
 fn put_step(
     text: &mut String,
     alloc: Global,
     rack: &mut Rack,
     step: &str,
-    number: u64,
-) -> Result<u64, AllocError> {
+    next: &mut u64,
+) -> Result<(), AllocError> {
     let (word, rest) = step.split_once(' ').unwrap_or((step, ""));
     match word {
-        "kinds" => put_kinds(text, rack)?,
-        "turns" => put_turns_of(text, alloc, rack, size_of(Some(rest)))?,
+        "kinds" => put_kinds(text, rack),
+        "turns" => put_turns_of(text, alloc, rack, size_of(Some(rest))),
         _ => {
-            let what = call_of(alloc, rest);
-            put_called(
-                text,
-                alloc,
-                rack,
-                size_of(Some(word)),
-                &Call { number, what },
-            )?;
-            return Ok(number.saturating_add(1));
+            let call = Call {
+                number: *next,
+                what: call_of(alloc, rest),
+            };
+            *next = next.saturating_add(1);
+            put_called(text, alloc, rack, size_of(Some(word)), &call)
         }
     }
-    Ok(number)
 }
 
 /// Writes steps with their outcomes.
@@ -108,18 +105,12 @@ fn put_steps(
     rack: &mut Rack,
     history: &str,
 ) -> Result<(), AllocError> {
-    let mut number = 0;
-    for line in history.lines() {
-        match line.split_once(" => ") {
-            Some((step, _wanted)) => {
-                put_given(text, step)?;
-                number = put_step(text, alloc, rack, step, number)?;
-                text.push_str("\n")?;
-            }
-            None => put_words(text, line)?,
-        }
-    }
-    Ok(())
+    let mut next = 0;
+    put_rows(
+        text,
+        history,
+        |text, step| put_step(text, alloc, rack, step, &mut next),
+    )
 }
 
 /// Goes through a history with these handlers.

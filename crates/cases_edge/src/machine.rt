@@ -2,8 +2,7 @@
 //! `read NAME LIMIT` reads one as the product does.
 
 use crate::files::put_read;
-use crate::lines::{put_given, put_words};
-use cases_notation::bytes_of;
+use cases_notation::{bytes_of, put_given, put_words};
 use servient_edge::FilesReal;
 use std::{fs, io};
 
@@ -43,9 +42,10 @@ fn put(text: &mut String, rt: &HostRuntime, lines: &str) -> io::Result<()> {
     Ok(())
 }
 
-/// The lines with what comes of the steps.
-pub fn page(rt: &HostRuntime, lines: &str) -> io::Result<String> {
+/// Prints the lines of the file `machine` with what comes of the steps.
+pub fn print(rt: &HostRuntime) -> io::Result<()> {
+    let lines = fs::read_to_string(rt, "machine")?;
     let mut text = String::new(rt.alloc());
-    put(&mut text, rt, lines)?;
-    Ok(text)
+    put(&mut text, rt, lines.as_str())?;
+    rt.print(text)
 }

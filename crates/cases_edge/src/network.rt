@@ -5,9 +5,10 @@
 ghost use Rattle.std.specs.Prelude.{◌<◌, IfOk, IfSome};
 ghost use Rattle.servient_outside.specs.Network.{IsWithinBounds, MayCome};
 
-use crate::lines::{endpoint_of, fails_of, put_given, put_words};
-use crate::runs;
-use cases_notation::{bytes_of, number, put as put_bytes};
+use crate::lines::fails_of;
+use cases_notation::{
+    bytes_of, endpoint_of, number, put as put_bytes, put_rows, put_runs, small_number,
+};
 use coap_msg::Endpoint;
 use servient_outside::{Act, Event, EventWithBytes, Events, Net, NetMemory, Next, Place, What};
 use std::alloc::{AllocError, Global};
@@ -105,9 +106,9 @@ fn put_next(text: &mut String, net: &mut NetMemory) -> Result<(), AllocError> {
 fn place_of(alloc: Global, words: &str) -> Result<Place, AllocError> {
     let mut fields = words.split(' ');
     let http_host = Text::copy_of(alloc, fields.next().unwrap_or(""))?;
-    let http_port = port_of(fields.next());
+    let http_port = small_number(fields.next());
     let coap_host = Text::copy_of(alloc, fields.next().unwrap_or(""))?;
-    let coap_port = port_of(fields.next());
+    let coap_port = small_number(fields.next());
     Ok(Place {
         http_host,
         http_port,
@@ -115,11 +116,6 @@ fn place_of(alloc: Global, words: &str) -> Result<Place, AllocError> {
         coap_port,
         idle: number(fields.next()),
     })
-}
-
-/// A port.
-fn port_of(field: Option<&str>) -> u16 {
-    u16::try_from(number(field)).unwrap_or(0)
 }
 
 /// Listens, and says the answer.
@@ -161,14 +157,14 @@ fn put_act(text: &mut String, act: &Act) -> Result<(), AllocError> {
     match act {
         Act::Sent(c, bytes) => {
             write!(text, "sent {c} ")?;
-            runs::put(text, bytes.as_slice())
+            put_runs(text, bytes.as_slice())
         }
         Act::Closed(c) => write!(text, "closed {c}"),
         Act::Datagram(to, bytes) => {
             text.push_str("datagram ")?;
             put_endpoint(text, *to)?;
             text.push_str(" ")?;
-            runs::put(text, bytes.as_slice())
+            put_runs(text, bytes.as_slice())
         }
         Act::Listened(place) => write!(
             text,
@@ -196,7 +192,7 @@ fn put_acts(text: &mut String, net: &NetMemory) -> Result<(), AllocError> {
 /// The host and the port of these words.
 fn host_of(words: &str) -> (&str, u16) {
     let (host, port) = words.split_once(' ').unwrap_or((words, ""));
-    (host, port_of(Some(port)))
+    (host, small_number(Some(port)))
 }
 
 /// Does a step that has no answer.
@@ -233,26 +229,22 @@ fn put_done(
     }
 }
 
-/// Writes a step and what comes of it.
+/// Does a step, and writes what comes of it.
 fn put_step(
     text: &mut String,
     alloc: Global,
     net: &mut NetMemory,
     step: &str,
 ) -> Result<(), AllocError> {
-    put_given(text, step)?;
     let (word, words) = step.split_once(' ').unwrap_or((step, ""));
-    put_done(text, alloc, net, word, words)?;
-    text.push_str("\n")
+    put_done(text, alloc, net, word, words)
 }
 
 pub fn put(text: &mut String, alloc: Global, history: &str) -> Result<(), AllocError> {
     let mut net = NetMemory::new(alloc, events_of(alloc, history)?, fails_of(alloc, history)?)?;
-    for line in history.lines() {
-        match line.split_once(" => ") {
-            Some((step, _wanted)) => put_step(text, alloc, &mut net, step)?,
-            None => put_words(text, line)?,
-        }
-    }
-    Ok(())
+    put_rows(
+        text,
+        history,
+        |text, step| put_step(text, alloc, &mut net, step),
+    )
 }

@@ -1,9 +1,8 @@
 //! Outputs in memory: a line `room N`, lines `fails N` with the calls that fail; and steps: `put BYTES`, and the bytes
 //! that are written then.
 
-use crate::lines::{fails_of, put_given, put_words, size_of};
-use crate::runs;
-use cases_notation::bytes_of;
+use crate::lines::{fails_of, size_of};
+use cases_notation::{bytes_of, put_rows, put_runs};
 use servient_outside::{Out, OutMemory};
 use std::alloc::{AllocError, Global};
 use std::fmt::Write;
@@ -21,7 +20,7 @@ fn room_of(history: &str) -> usize {
 /// Puts a piece.
 fn put_piece(text: &mut String, out: &mut OutMemory, piece: &[u8]) -> Result<(), AllocError> {
     write!(text, "{:?}, ", out.put(piece))?;
-    runs::put(text, out.written())
+    put_runs(text, out.written())
 }
 
 /// Does a step.
@@ -31,19 +30,15 @@ fn put_step(
     out: &mut OutMemory,
     step: &str,
 ) -> Result<(), AllocError> {
-    put_given(text, step)?;
     let piece = bytes_of(alloc, step.strip_prefix("put ").unwrap_or("-"))?;
-    put_piece(text, out, piece.as_slice())?;
-    text.push_str("\n")
+    put_piece(text, out, piece.as_slice())
 }
 
 pub fn put(text: &mut String, alloc: Global, history: &str) -> Result<(), AllocError> {
     let mut out = OutMemory::new(alloc, room_of(history), fails_of(alloc, history)?)?;
-    for line in history.lines() {
-        match line.split_once(" => ") {
-            Some((step, _wanted)) => put_step(text, alloc, &mut out, step)?,
-            None => put_words(text, line)?,
-        }
-    }
-    Ok(())
+    put_rows(
+        text,
+        history,
+        |text, step| put_step(text, alloc, &mut out, step),
+    )
 }

@@ -1,9 +1,8 @@
 //! Outputs over a writer: a row is `vector` or `room N` and pieces with `; ` between them; the answer to each, and the
 //! bytes that are then in the vector, or at the front of a slice of n bytes.
 
-use crate::lines::{put_given, put_words, size_of};
-use crate::runs;
-use cases_notation::bytes_of;
+use crate::lines::size_of;
+use cases_notation::{bytes_of, put_rows, put_runs};
 use servient_edge::{Out, OutReal};
 use std::alloc::{AllocError, Global};
 use std::fmt::Write;
@@ -36,7 +35,7 @@ fn put_pieces(
 fn put_vector(text: &mut String, alloc: Global, pieces: &str) -> Result<(), AllocError> {
     let mut bytes = Vec::new(alloc);
     put_pieces(text, alloc, &mut OutReal::new(&mut bytes), pieces)?;
-    runs::put(text, bytes.as_slice())
+    put_runs(text, bytes.as_slice())
 }
 
 /// Puts pieces to a slice.
@@ -44,26 +43,18 @@ fn put_slice(text: &mut String, alloc: Global, words: &str) -> Result<(), AllocE
     let (size, pieces) = words.split_once(' ').unwrap_or((words, "-"));
     let mut bytes = vec![in alloc; b'.'; size_of(Some(size))]?;
     put_pieces(text, alloc, &mut OutReal::new(bytes.as_mut_slice()), pieces)?;
-    runs::put(text, bytes.as_slice())
+    put_runs(text, bytes.as_slice())
 }
 
 /// Does a row.
 fn put_row(text: &mut String, alloc: Global, row: &str) -> Result<(), AllocError> {
-    put_given(text, row)?;
     let (word, words) = row.split_once(' ').unwrap_or((row, "-"));
     match word {
-        "vector" => put_vector(text, alloc, words)?,
-        _ => put_slice(text, alloc, words)?,
+        "vector" => put_vector(text, alloc, words),
+        _ => put_slice(text, alloc, words),
     }
-    text.push_str("\n")
 }
 
 pub fn put(text: &mut String, alloc: Global, history: &str) -> Result<(), AllocError> {
-    for line in history.lines() {
-        match line.split_once(" => ") {
-            Some((row, _wanted)) => put_row(text, alloc, row)?,
-            None => put_words(text, line)?,
-        }
-    }
-    Ok(())
+    put_rows(text, history, |text, row| put_row(text, alloc, row))
 }

@@ -8,12 +8,13 @@ use Rattle.coap_msg.specs.declared.message.RequestType.{RequestType}
 use Rattle.coap_msg.specs.declared.message.RequestType.TheVariants.{Confirmable, NonConfirmable}
 use Rattle.coap_exchange.specs.Admission.{Arrival, lifetime, lives, is_duplicate_of}
 use Rattle.cases_exchanges.specs.Plain.{arrival_of, is_of, exchange_of, table_of, IsKept, times_used, times_free}
-use Rattle.coap_exchange.specs.Slots.{once_below}
+use Rattle.slot_lists.specs.Counts.{once_below}
 use Rattle.coap_exchange.specs.Table.{Exchange, exchange_in, answered, duplicated_exchange}
 use Rattle.cases_exchanges.specs.declared.entry.Entry.{Entry}
 use Rattle.cases_exchanges.specs.declared.plain.PlainExchanges.TheInside.{Inside}
 use Rattle.coap_exchange.proofs.ListLaws.{find-map, option_map_some, found_is_counted, found_once, found_passes, find_agreeing, uncounted_is_not_found}
-use Rattle.cases_exchanges.proofs.PlainSlots.{once_is_below, once_at_most, times_used-append, times_free-append, slots_split}
+use Rattle.cases_exchanges.proofs.PlainSlots.{times_used-append, times_free-append, slots_split}
+use Rattle.slot_lists.proofs.Counts.{once_is_below, once_at_most}
 use Rattle.std.specs.List.{find, filter, AllByRecursion}
 use Rattle.std.proofs.lemmas.List.Elements.{recursion_from_All}
 use Rattle.std.proofs.lemmas.List.{get_or-set_same, get_or-set_other, length-map, map-append}

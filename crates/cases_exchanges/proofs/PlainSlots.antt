@@ -1,10 +1,9 @@
 -- Slots: each below the capacity is used once or free once.
-use Rattle.std.proofs.Common.{◌≡◌, ◌+◌, ◌≤◌, ◌<◌, ◌==◌, ℕ, Bool, true, false, cond, not, List, [], ◌∷◌, ◌++◌, map, refl, arith}
-use Rattle.std.specs.Prelude.{nat_lt}
+use Rattle.std.proofs.Common.{◌≡◌, ◌+◌, ◌==◌, ℕ, Bool, true, false, cond, not, List, [], ◌∷◌, ◌++◌, map, refl, arith}
 use Rattle.std.specs.List.{filter}
 use Rattle.std.proofs.lemmas.Bool.Decides.{nat_tests}
 use Rattle.cases_exchanges.specs.Plain.{times_used, times_free}
-use Rattle.coap_exchange.specs.Slots.{once_below}
+use Rattle.slot_lists.specs.Counts.{once_below}
 use Rattle.coap_exchange.proofs.ListLaws.{times-append}
 use Rattle.cases_exchanges.specs.declared.entry.Entry.{Entry}
 
@@ -20,21 +19,6 @@ times_used-append s xs ys = times-append (λ x. x.slot == s) xs ys
 
 pub slots_more : (s n : ℕ) (free : List ℕ) → times_free s free ≡ once_below s n → times_free s (free ++ n ∷ []) ≡ once_below s (n + 1)
 slots_more s n free e = omega (arith, once_more s n, times_free-append s free (n ∷ []))
-
--- a slot that is counted is below the limit, and no slot is counted twice
-below_at : (s n : ℕ) (b : Bool) → nat_lt s n ≡ b → 1 ≤ cond b 1 0 → s < n
-below_at s n true e h = grind (arith, nat_tests)
-below_at s n false e h = absurd (omega arith)
-
-pub once_is_below : (s n : ℕ) → 1 ≤ once_below s n → s < n
-once_is_below s n h = below_at s n (nat_lt s n) refl h
-
-at_most_at : (b : Bool) → cond b 1 0 ≤ 1
-at_most_at true = omega arith
-at_most_at false = omega arith
-
-pub once_at_most : (s n : ℕ) → once_below s n ≤ 1
-once_at_most s n = at_most_at (nat_lt s n)
 
 -- a filter keeps some slots and leaves others out
 split_at : (s : ℕ) (p : Bool) (e : Entry) (kept left : List Entry) (whole : ℕ)

@@ -2,7 +2,8 @@
 use Rattle.std.specs.Prelude.{◌≡◌, ◌+◌, ◌≤◌, ◌==◌, ◌&&◌, ℕ, Bool, List, length, map, All, Option, None, slice_index_or, vec_capacity, true}
 use Rattle.coap_msg.specs.declared.endpoint.Endpoint.{Endpoint}
 use Rattle.coap_exchange.specs.Admission.{Arrival, lives}
-use Rattle.coap_exchange.specs.Slots.{once_below, times}
+use Rattle.coap_exchange.specs.Slots.{times}
+use Rattle.slot_lists.specs.Counts.{once_below}
 use Rattle.coap_exchange.specs.Table.{Exchange, Table}
 use Rattle.cases_exchanges.specs.declared.entry.Entry.{Entry}
 use Rattle.cases_exchanges.specs.declared.plain.PlainExchanges.TheInside.{Inside}

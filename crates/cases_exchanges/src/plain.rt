@@ -3,7 +3,7 @@
 
 ghost use Rattle.std.specs.Prelude.{◌≡◌, ◌≤◌, ◌+◌, ◌++◌, ℕ, map, filter, find, not, length, IfOk, vec_capacity};
 ghost use Rattle.coap_exchange.specs.Admission.{lives};
-ghost use Rattle.coap_exchange.specs.Slots.{once_below};
+ghost use Rattle.slot_lists.specs.Counts.{once_below};
 ghost use Rattle.cases_exchanges.specs.Plain.{arrival_of, is_of, times_free};
 ghost use Rattle.coap_msg.specs.declared.message.Type4.TheVariants.{Con, Non};
 

@@ -17,8 +17,9 @@ mod reading;
 mod tried;
 mod writing;
 
+use cases_notation::{print_files, put_rows};
 use std::alloc::{AllocError, Global};
-use std::{env, fs, io};
+use std::io;
 
 /// Writes what comes of what is given in a row.
 fn put_outcome(
@@ -34,32 +35,15 @@ fn put_outcome(
     }
 }
 
-/// The rows of a table, each with what comes of it.
-fn page(alloc: Global, table: &str, lines: &str) -> Result<String, AllocError> {
-    let mut text = String::new(alloc);
-    for line in lines.lines() {
-        match line.split_once(" => ") {
-            Some((given, _wanted)) => {
-                text.push_str(given)?;
-                text.push_str(" => ")?;
-                put_outcome(&mut text, alloc, table, given)?;
-            }
-            None => text.push_str(line)?,
-        }
-        text.push_str("\n")?;
-    }
-    Ok(text)
-}
-
-/// Prints a file with what comes of it.
-fn print(rt: &HostRuntime, table: &str) -> io::Result<()> {
-    let lines = fs::read_to_string(rt, table)?;
-    rt.print(page(rt.alloc(), table, lines.as_str())?)
+/// Writes the rows of a table, each with what comes of it.
+fn put_file(text: &mut String, alloc: Global, table: &str, lines: &str) -> Result<(), AllocError> {
+    put_rows(
+        text,
+        lines,
+        |text, given| put_outcome(text, alloc, table, given),
+    )
 }
 
 fn main(rt: HostRuntime) -> io::Result<()> {
-    for table in env::args(&rt)?.skip(1) {
-        print(&rt, table.as_str())?;
-    }
-    Ok(())
+    print_files(&rt, put_file)
 }

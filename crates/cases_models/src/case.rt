@@ -22,8 +22,8 @@
 //! display NAME => TEXT                how the fault of this name is displayed that is out of memory
 //! ```
 
-use crate::expansion::{expanded, numbered, size_of};
 use crate::{derivations, parts, resolving};
+use cases_notation::{expanded, numbered, size_of};
 use std::alloc::{AllocError, Global};
 use std::fmt::Write;
 use std::str;

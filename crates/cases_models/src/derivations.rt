@@ -1,7 +1,7 @@
 //! The Things that models are derived into.
 
 use crate::case::{Case, put_tree, word_of};
-use crate::expansion::size_of;
+use cases_notation::size_of;
 use std::alloc::{AllocError, Global};
 use std::fmt::Write;
 use tm_derive::{Choices, DeriveFault, Frame, Thing, Things, derive};

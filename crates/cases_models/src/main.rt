@@ -5,23 +5,13 @@
 
 mod case;
 mod derivations;
-mod expansion;
 mod parts;
 mod resolving;
 
 use case::Case;
-use expansion::expanded;
+use cases_notation::{print_files, put_came, put_given, put_histories};
 use std::alloc::{AllocError, Global};
-use std::{env, fs, io};
-
-/// Writes what came: as it was to come, if that means the same with its repeats written out.
-fn put_came(text: &mut String, alloc: Global, wanted: &str, said: &str) -> Result<(), AllocError> {
-    if wanted.contains("repeat(") {
-        let whole = expanded(alloc, wanted)?;
-        return text.push_str(if whole.as_str() == said { wanted } else { said });
-    }
-    text.push_str(said)
-}
+use std::io;
 
 /// Writes a line with what came of it. A line that only puts something down shows a fault alone.
 fn put_line(
@@ -34,8 +24,7 @@ fn put_line(
     match line.split_once(" => ") {
         Some((given, wanted)) => {
             case.take(said, given)?;
-            text.push_str(given)?;
-            text.push_str(" => ")?;
+            put_given(text, given)?;
             put_came(text, case.alloc, wanted, said.as_str())?;
         }
         None => {
@@ -65,34 +54,16 @@ fn put_case(
     Ok(())
 }
 
-/// Writes all cases of a file.
-fn put_page(text: &mut String, alloc: Global, cases: &str) -> Result<(), AllocError> {
+/// Writes the cases of a file with what came of them.
+fn put_file(text: &mut String, alloc: Global, _name: &str, lines: &str) -> Result<(), AllocError> {
     let mut said = String::new(alloc);
-    for (place, lines) in cases.split("\n\n").enumerate() {
-        if place > 0 {
-            text.push_str("\n")?;
-        }
-        put_case(text, &mut said, alloc, lines)?;
-    }
-    Ok(())
-}
-
-/// The cases of a file with what came of them.
-fn page(alloc: Global, cases: &str) -> Result<String, AllocError> {
-    let mut text = String::new(alloc);
-    put_page(&mut text, alloc, cases)?;
-    Ok(text)
-}
-
-/// Prints a file of cases.
-fn print(rt: &HostRuntime, name: &str) -> io::Result<()> {
-    let cases = fs::read_to_string(rt, name)?;
-    rt.print(page(rt.alloc(), cases.as_str())?)
+    put_histories(
+        text,
+        lines,
+        |text, case| put_case(text, &mut said, alloc, case),
+    )
 }
 
 fn main(rt: HostRuntime) -> io::Result<()> {
-    for name in env::args(&rt)?.skip(1) {
-        print(&rt, name.as_str())?;
-    }
-    Ok(())
+    print_files(&rt, put_file)
 }

@@ -15,30 +15,16 @@
 //! The members come after those of a valid description; of several of one name the last counts. After an empty line the
 //! directory is a new one.
 
-use crate::registrations::{moment, put_tree, tree_of};
+use crate::registrations::{moment, put_tree};
+use cases_notation::put_rows;
+use cases_values::{described, tree_of};
 use std::alloc::{AllocError, Global};
 use std::fmt::Write;
 use std::str;
-use wot_json::Tree;
 use wot_registry::{RegFault, Registry};
 
 /// The moment at which the clock began: 2000-02-29T00:00:00Z.
 const EPOCH: u64 = 951_782_400_000;
-/// The beginning of a valid description.
-const START: &str =
-    r#"{"@context":"https://www.w3.org/2022/wot/td/v1.1","security":"n","securityDefinitions":{"n":{"scheme":"nosec"}},"title":"T""#;
-
-/// The description with these further members.
-fn described(alloc: Global, members: &str) -> Result<Tree, AllocError> {
-    let mut text = String::from_str(alloc, START)?;
-    if !members.is_empty() {
-        text.push_str(",")?;
-        text.push_str(members)?;
-    }
-    text.push_str("}")?;
-    tree_of(alloc, text.as_str())
-}
-
 /// Writes the answer of a call without a value. The text is lent, since a function pays at each early exit for what it
 /// owns.
 fn put_done(text: &mut String, outcome: Result<(), RegFault>) -> Result<(), AllocError> {
@@ -172,32 +158,12 @@ fn put_step(
     }
 }
 
-/// Writes a line: a step with what comes of it, and any other as it is.
-fn put_line(
-    text: &mut String,
-    alloc: Global,
-    registry: &mut Registry,
-    line: &str,
-) -> Result<(), AllocError> {
-    match line.split_once(" => ") {
-        Some((step, _wanted)) => {
-            text.push_str(step)?;
-            text.push_str(" => ")?;
-            put_step(text, alloc, registry, step)?;
-        }
-        None => text.push_str(line)?,
-    }
-    text.push_str("\n")
-}
-
-/// Writes histories, each step with what comes of it.
-pub fn put_histories(text: &mut String, alloc: Global, lines: &str) -> Result<(), AllocError> {
+/// Writes a history, each step with what comes of it.
+pub fn put_history(text: &mut String, alloc: Global, history: &str) -> Result<(), AllocError> {
     let mut registry = Registry::new(alloc, EPOCH);
-    for line in lines.lines() {
-        if line.is_empty() {
-            registry = Registry::new(alloc, EPOCH);
-        }
-        put_line(text, alloc, &mut registry, line)?;
-    }
-    Ok(())
+    put_rows(
+        text,
+        history,
+        |text, step| put_step(text, alloc, &mut registry, step),
+    )
 }

@@ -15,8 +15,9 @@
 mod histories;
 mod registrations;
 
+use cases_notation::{print_files, put_histories, put_rows};
 use std::alloc::{AllocError, Global};
-use std::{env, fs, io};
+use std::io;
 use wot_registry::date_text;
 
 /// Writes the text of the date and time that a number of milliseconds names.
@@ -37,41 +38,24 @@ fn put_row(text: &mut String, alloc: Global, table: &str, given: &str) -> Result
     }
 }
 
-/// Writes the rows of a file, each with what comes of it.
-fn put_rows(text: &mut String, alloc: Global, table: &str, lines: &str) -> Result<(), AllocError> {
-    for line in lines.lines() {
-        match line.split_once(" => ") {
-            Some((given, _wanted)) => {
-                text.push_str(given)?;
-                text.push_str(" => ")?;
-                put_row(text, alloc, table, given)?;
-            }
-            None => text.push_str(line)?,
-        }
-        text.push_str("\n")?;
-    }
-    Ok(())
-}
-
-/// A file with what comes of it.
-fn page(alloc: Global, table: &str, lines: &str) -> Result<String, AllocError> {
-    let mut text = String::new(alloc);
+/// Writes a file with what comes of it.
+fn put_file(text: &mut String, alloc: Global, table: &str, lines: &str) -> Result<(), AllocError> {
     match table {
-        "histories" => histories::put_histories(&mut text, alloc, lines)?,
-        _ => put_rows(&mut text, alloc, table, lines)?,
+        "histories" => {
+            put_histories(
+                text,
+                lines,
+                |text, history| histories::put_history(text, alloc, history),
+            )
+        }
+        _ => put_rows(
+            text,
+            lines,
+            |text, given| put_row(text, alloc, table, given),
+        ),
     }
-    Ok(text)
-}
-
-/// Prints a file with what comes of it.
-fn print(rt: &HostRuntime, table: &str) -> io::Result<()> {
-    let lines = fs::read_to_string(rt, table)?;
-    rt.print(page(rt.alloc(), table, lines.as_str())?)
 }
 
 fn main(rt: HostRuntime) -> io::Result<()> {
-    for table in env::args(&rt)?.skip(1) {
-        print(&rt, table.as_str())?;
-    }
-    Ok(())
+    print_files(&rt, put_file)
 }

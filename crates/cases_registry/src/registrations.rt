@@ -4,24 +4,17 @@
 ghost use Rattle.std.specs.Prelude.{◌≤◌};
 ghost use Rattle.wot_registry.specs.Times.{last_moment};
 
+use cases_values::tree_of;
 use std::alloc::{AllocError, Global};
 use std::fmt::Write;
 use std::str;
-use wot_json::{Tree, read, text_of};
+use wot_json::{Tree, text_of};
 use wot_registry::{Times, asked_ttl, patched_from, show, without_registration};
 
 /// The last moment of a clock.
 const LAST_MOMENT: u64 = 1_000_000_000_000_000;
 /// The latest beginning of a clock.
 const LATEST_EPOCH: u64 = 253_402_300_799_999;
-
-/// The tree of a JSON text; a text that is none counts as out of memory.
-pub fn tree_of(alloc: Global, text: &str) -> Result<Tree, AllocError> {
-    match read(alloc, text.as_bytes()) {
-        Ok(tree) => Ok(tree),
-        Err(_) => Err(AllocError),
-    }
-}
 
 /// Writes a tree.
 pub fn put_tree(text: &mut String, alloc: Global, tree: &Tree) -> Result<(), AllocError> {

@@ -69,7 +69,7 @@ pub fn responses(world: &World, made: &AskMade) -> usize {
 }
 
 /// The number of these turns that write a number or fade with it.
-fn turns_with(turns: &[Turn], number: i64) -> usize {
+pub fn turns_with(turns: &[Turn], number: i64) -> usize {
     let mut count: usize = 0;
     for turn in turns {
         if acted_with(turn) == Some(number) {

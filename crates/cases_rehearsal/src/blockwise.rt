@@ -5,6 +5,7 @@ use crate::joined::{Book, NONE, put_joined, put_tally};
 use crate::lamp::{FADE, STATUS, world_of};
 use crate::played::Played;
 use crate::schedules::moves_of;
+use cases_notation::{put_given, put_words};
 use servient_rehearsal::Moves;
 use std::alloc::{AllocError, Global};
 use thing_handler::{Handler, Handlers, Rack, SHIPPED_SLOTS, shipped_in};
@@ -53,8 +54,7 @@ fn put_schedule(
     given: &str,
     book: &mut Book<'_>,
 ) -> Result<(), AllocError> {
-    text.push_str(given)?;
-    text.push_str(" => ")?;
+    put_given(text, given)?;
     let moves = moves_of(alloc, given)?;
     put_moves(text, alloc, &moves, book)?;
     text.push_str("\n")
@@ -65,8 +65,7 @@ pub fn put(text: &mut String, alloc: Global, lines: &str) -> Result<(), AllocErr
     let mut book = Book { lines, tally: NONE };
     for line in lines.lines() {
         if line.starts_with("#") || line.starts_with("text ") {
-            text.push_str(line)?;
-            text.push_str("\n")?;
+            put_words(text, line)?;
         } else if let Some((given, _wanted)) = line.split_once(" => ") {
             put_schedule(text, alloc, given, &mut book)?;
         }

@@ -3,6 +3,7 @@
 use crate::lamp::world_of;
 use crate::reading::push_move;
 use crate::showing::{is_shown, put_turns, put_world};
+use cases_notation::put_words;
 use servient_rehearsal::Moves;
 use std::alloc::{AllocError, Global};
 use thing_handler::{Handler, Handlers, Rack, SHIPPED_SLOTS, shipped_in};
@@ -31,25 +32,13 @@ fn put_moves(text: &mut String, alloc: Global, moves: &Moves) -> Result<(), Allo
 }
 
 /// Writes a case and its outcome.
-fn put_case(text: &mut String, alloc: Global, lines: &str) -> Result<(), AllocError> {
+pub fn put_case(text: &mut String, alloc: Global, lines: &str) -> Result<(), AllocError> {
     let mut moves = Vec::new(alloc);
     for line in lines.lines() {
         if !is_shown(line) {
             let _is_move = push_move(&mut moves, alloc, line)?;
-            text.push_str(line)?;
-            text.push_str("\n")?;
+            put_words(text, line)?;
         }
     }
     put_moves(text, alloc, &moves)
-}
-
-/// Writes cases, with an empty line between them.
-pub fn put(text: &mut String, alloc: Global, lines: &str) -> Result<(), AllocError> {
-    for (index, case) in lines.split("\n\n").enumerate() {
-        if index > 0 {
-            text.push_str("\n")?;
-        }
-        put_case(text, alloc, case)?;
-    }
-    Ok(())
 }

@@ -9,7 +9,7 @@
 //!
 //! And of each number that was asked for there is one turn at most.
 
-use crate::asks::{acts, number_of};
+use crate::asks::{acts, number_of, turns_with};
 use crate::played::{Played, acted_with};
 use crate::rows::{Row, rows_of};
 use crate::steps::{Step, Way, steps_of};
@@ -28,17 +28,6 @@ fn number_in(alloc: Global, payload: &[u8]) -> Result<i64, AllocError> {
         }
     }
     Ok(number_of(digits.as_slice()))
-}
-
-/// The number of these turns that write this number or fade with it.
-fn turns_with(turns: &[Turn], number: i64) -> usize {
-    let mut count: usize = 0;
-    for turn in turns {
-        if acted_with(turn) == Some(number) {
-            count = count.saturating_add(1);
-        }
-    }
-    count
 }
 
 /// The number of turns that write this number or fade with it.

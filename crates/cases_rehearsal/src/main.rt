@@ -38,30 +38,24 @@ mod showing;
 mod steps;
 mod totals;
 
+use cases_notation::{print_files, put_histories, put_rows};
 use std::alloc::{AllocError, Global};
-use std::{env, fs, io};
+use std::io;
 
-/// A file as a text of its own.
-fn page(alloc: Global, name: &str, lines: &str) -> Result<String, AllocError> {
-    let mut text = String::new(alloc);
+/// Writes a file with what comes of it.
+fn put_file(text: &mut String, alloc: Global, name: &str, lines: &str) -> Result<(), AllocError> {
     match name {
-        "block_schedules" => blockwise::put(&mut text, alloc, lines)?,
-        "schedules" => schedules::put(&mut text, alloc, lines)?,
-        "sections" => sections::put(&mut text, alloc, lines)?,
-        _ => cases::put(&mut text, alloc, lines)?,
+        "block_schedules" => blockwise::put(text, alloc, lines),
+        "schedules" => schedules::put(text, alloc, lines),
+        "sections" => put_rows(
+            text,
+            lines,
+            |text, given| sections::put_row(text, alloc, given),
+        ),
+        _ => put_histories(text, lines, |text, case| cases::put_case(text, alloc, case)),
     }
-    Ok(text)
-}
-
-/// Prints a file.
-fn print(rt: &HostRuntime, name: &str) -> io::Result<()> {
-    let lines = fs::read_to_string(rt, name)?;
-    rt.print(page(rt.alloc(), name, lines.as_str())?)
 }
 
 fn main(rt: HostRuntime) -> io::Result<()> {
-    for name in env::args(&rt)?.skip(1) {
-        print(&rt, name.as_str())?;
-    }
-    Ok(())
+    print_files(&rt, put_file)
 }

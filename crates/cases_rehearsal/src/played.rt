@@ -40,33 +40,23 @@ pub fn message_in(sent: &SentDatagram, from: u128, to: u128, kind: Type4) -> Opt
     }
 }
 
+/// A message, if it has this message ID.
+fn with_id(message: Option<Message<'_>>, id: u16) -> Option<Message<'_>> {
+    match message {
+        Some(message) if message.id == id => Some(message),
+        _ => None,
+    }
+}
+
 /// The request in a datagram, if it is the first of an ask or one of its copies, since a client asks by each message
 /// that it sends Confirmable.
 pub fn copy_in<'a>(sent: &'a SentDatagram, made: &AskMade) -> Option<Message<'a>> {
-    match message_in(sent, CLIENT, SERVIENT, Type4::Con) {
-        Some(message) => {
-            if message.id == made.id {
-                Some(message)
-            } else {
-                None
-            }
-        }
-        None => None,
-    }
+    with_id(message_in(sent, CLIENT, SERVIENT, Type4::Con), made.id)
 }
 
 /// The answer in a datagram, if it is a response to an ask: it is an Acknowledgement with its message ID.
 pub fn response_in<'a>(sent: &'a SentDatagram, made: &AskMade) -> Option<Message<'a>> {
-    match message_in(sent, SERVIENT, CLIENT, Type4::Ack) {
-        Some(message) => {
-            if message.id == made.id {
-                Some(message)
-            } else {
-                None
-            }
-        }
-        None => None,
-    }
+    with_id(message_in(sent, SERVIENT, CLIENT, Type4::Ack), made.id)
 }
 
 /// The message to an observer in a datagram, if it is a notification.

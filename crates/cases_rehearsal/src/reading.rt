@@ -1,6 +1,6 @@
 //! Moves in words.
 
-use cases_notation::{bytes_of, message_of, number};
+use cases_notation::{bytes_of, format_of, message_of, number, option_of};
 use coap_msg::{Block, Endpoint};
 use servient_outside::What;
 use servient_rehearsal::{Move, Moves};
@@ -27,25 +27,6 @@ fn path_of(alloc: Global, text: &str) -> Result<Segments, AllocError> {
         }
     }
     Ok(path)
-}
-
-/// The number of the option of this name at the beginning of these words, if it is there, and the words after it.
-fn option_of<'a>(name: &str, words: &'a str) -> (Option<&'a str>, &'a str) {
-    match words.strip_prefix(name) {
-        Some(rest) => {
-            let (digits, payload) = rest.split_once(' ').unwrap_or((rest, "-"));
-            (Some(digits), payload)
-        }
-        None => (None, words),
-    }
-}
-
-/// The content format of these digits.
-fn format_of(digits: Option<&str>) -> Option<u16> {
-    match digits {
-        Some(digits) => digits.parse::<u16>().ok(),
-        None => None,
-    }
 }
 
 /// The block that a number says (RFC 7959, section 2.2); none where it is too great.

@@ -12,6 +12,7 @@ use crate::lamp::{FADE, STATUS, world_of};
 use crate::played::Played;
 use crate::reading::push_move;
 use crate::totals::{self, NONE, Totals};
+use cases_notation::{put_given, put_words};
 use servient_rehearsal::Moves;
 use std::alloc::{AllocError, Global};
 use std::fmt::Write;
@@ -135,8 +136,7 @@ fn put_schedule(
     given: &str,
     tally: &mut Tally,
 ) -> Result<(), AllocError> {
-    text.push_str(given)?;
-    text.push_str(" => ")?;
+    put_given(text, given)?;
     let moves = moves_of(alloc, given)?;
     put_moves(text, alloc, &moves, tally)?;
     text.push_str("\n")
@@ -150,8 +150,7 @@ pub fn put(text: &mut String, alloc: Global, lines: &str) -> Result<(), AllocErr
     };
     for line in lines.lines() {
         if line.starts_with("#") {
-            text.push_str(line)?;
-            text.push_str("\n")?;
+            put_words(text, line)?;
         }
         if let Some((given, _wanted)) = line.split_once(" => ") {
             put_schedule(text, alloc, given, &mut tally)?;

@@ -74,7 +74,7 @@ fn put_kept<R: Handlers>(text: &mut String, rack: &R) -> Result<(), AllocError> 
             last = last.max(turn.number);
         }
     }
-    writeln!(text, "{count} turns are kept, the last is {last}")
+    write!(text, "{count} turns are kept, the last is {last}")
 }
 
 /// Writes the outcome of a row with these devices. The rack is lent, since a function pays at each early exit for what
@@ -91,28 +91,16 @@ fn put_run<R: Handlers>(
     put_kept(text, rack)
 }
 
-/// Writes a row and its outcome.
-fn put_row(text: &mut String, alloc: Global, given: &str) -> Result<(), AllocError> {
-    write!(text, "{given} => ")?;
+/// Writes the outcome of a row.
+///
+/// # Errors
+///
+/// Out of memory alone.
+pub fn put_row(text: &mut String, alloc: Global, given: &str) -> Result<(), AllocError> {
     let mut list: Vec<Box<dyn Handler>> = Vec::new(alloc);
     for slot in 0..SHIPPED_SLOTS {
         list.push(Box::new(alloc, shipped_in(alloc, slot))?)?;
     }
     let mut rack = Rack::new(alloc, list);
     put_run(text, alloc, &mut rack, row_of(given))
-}
-
-/// Writes rows, each with its outcome, and the lines that only say something.
-///
-/// # Errors
-///
-/// Out of memory alone.
-pub fn put(text: &mut String, alloc: Global, lines: &str) -> Result<(), AllocError> {
-    for line in lines.lines() {
-        match line.split_once(" => ") {
-            Some((given, _)) => put_row(text, alloc, given)?,
-            None => writeln!(text, "{line}")?,
-        }
-    }
-    Ok(())
 }

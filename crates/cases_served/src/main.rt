@@ -118,14 +118,8 @@ fn speak(rt: &HostRuntime) -> io::Result<bool> {
     let size = ask(rt, coap, &mut answer)?;
     discover(rt, coap)?;
     consume(rt, http, coap)?;
-    let output = child.wait_with_output(rt.alloc())?;
-    print(
-        rt,
-        written.as_slice(),
-        read.as_slice(),
-        answer.get(..size).unwrap_or(b""),
-    )?;
-    print_end(rt, &output)?;
+    let answer = answer.get(..size).unwrap_or(b"");
+    end(rt, child, written.as_slice(), read.as_slice(), answer)?;
     Ok(true)
 }
 
@@ -210,14 +204,8 @@ fn crowd(rt: &HostRuntime) -> io::Result<bool> {
     let size = ask(rt, coap, &mut answer)?;
     drop(others);
     let read = exchange(rt, last, READ)?;
-    let output = child.wait_with_output(rt.alloc())?;
-    print(
-        rt,
-        written.as_slice(),
-        read.as_slice(),
-        answer.get(..size).unwrap_or(b""),
-    )?;
-    print_end(rt, &output)?;
+    let answer = answer.get(..size).unwrap_or(b"");
+    end(rt, child, written.as_slice(), read.as_slice(), answer)?;
     Ok(true)
 }
 
@@ -335,6 +323,19 @@ fn print(rt: &HostRuntime, written: &[u8], read: &[u8], answer: &[u8]) -> io::Re
         print!(rt; "{byte:02x}")?;
     }
     println!(rt; "")
+}
+
+/// Waits for the end of a child, and prints what it replied, and its end.
+fn end(
+    rt: &HostRuntime,
+    child: Child,
+    written: &[u8],
+    read: &[u8],
+    answer: &[u8],
+) -> io::Result<()> {
+    let output = child.wait_with_output(rt.alloc())?;
+    print(rt, written, read, answer)?;
+    print_end(rt, &output)
 }
 
 /// Prints the end of the child.

@@ -16,9 +16,9 @@
 //! $ WORDS                the command; what it prints, what it did to the network and its status follow
 //! ```
 
-use crate::devices::{Device, device_of};
 use crate::spelling::put_spelled;
 use cases_notation::{bytes_of, number};
+use cases_values::{Device, device_of};
 use servient_outside::{Calls, Held, HeldFile};
 use std::alloc::{AllocError, Global};
 use thing_handler::SHIPPED_SLOTS;

@@ -3,9 +3,9 @@
 use crate::acts::put_acts;
 use crate::case::Case;
 use crate::crowded::Crowded;
-use crate::devices::Device;
 use crate::scripts::LONGEST_SCRIPT;
 use crate::spelling::put_printed;
+use cases_values::Device;
 use servient_cli::{Script, servient_main};
 use servient_outside::{Calls, Events, FilesMemory, Held, Net, NetMemory, OutMemory};
 use std::alloc::{AllocError, Global};

@@ -45,33 +45,18 @@ fn put_fault(text: &mut String, given: &str) -> Result<(), AllocError> {
 }
 
 /// Writes what comes of a row.
-fn put_row(text: &mut String, alloc: Global, table: &str, given: &str) -> Result<(), AllocError> {
-    match table {
-        "scripts" => put_script(text, alloc, bytes_of(alloc, given)?.as_slice()),
-        _ => put_fault(text, given),
-    }
-}
-
-/// Writes rows, each with what comes of it, and other lines as they are.
 ///
 /// # Errors
 ///
 /// Out of memory alone.
-pub fn put_rows(
+pub fn put_row(
     text: &mut String,
     alloc: Global,
     table: &str,
-    lines: &str,
+    given: &str,
 ) -> Result<(), AllocError> {
-    for line in lines.lines() {
-        match line.split_once(" => ") {
-            Some((given, _wanted)) => {
-                write!(text, "{given} => ")?;
-                put_row(text, alloc, table, given)?;
-            }
-            None => text.push_str(line)?,
-        }
-        text.push_str("\n")?;
+    match table {
+        "scripts" => put_script(text, alloc, bytes_of(alloc, given)?.as_slice()),
+        _ => put_fault(text, given),
     }
-    Ok(())
 }

@@ -2,6 +2,7 @@
 
 use crate::case::Case;
 use crate::{cuts, running};
+use cases_notation::put_histories;
 use std::alloc::{AllocError, Global};
 
 /// Writes the lines of a case, up to its command; without one, all of them.
@@ -79,11 +80,9 @@ fn put_case(
 /// Out of memory alone.
 pub fn put_cases(text: &mut String, alloc: Global, cases: &str) -> Result<(), AllocError> {
     let mut shared = String::new(alloc);
-    for (place, block) in cases.split("\n\n").enumerate() {
-        if place > 0 {
-            text.push_str("\n")?;
-        }
-        put_case(text, alloc, &mut shared, block)?;
-    }
-    Ok(())
+    put_histories(
+        text,
+        cases,
+        |text, block| put_case(text, alloc, &mut shared, block),
+    )
 }

@@ -9,7 +9,7 @@
 //!
 //! A case without a step is read after the lines of each later case of its file.
 
-use crate::devices::{Device, device_of};
+use cases_values::{Device, device_of};
 use std::alloc::{AllocError, Global};
 use thing_core::Slots;
 use wot_json::Text;

@@ -16,35 +16,13 @@
 
 ghost use Rattle.std.specs.Prelude.{◌≤◌};
 
-use cases_notation::{bytes_of, number, put};
+use cases_notation::{bytes_of, number, put, put_rows};
+use cases_values::{described, tree_of};
 use std::alloc::{AllocError, Global};
 use std::fmt::Write;
 use std::str;
 use wot_directory::{DirFault, Directory};
-use wot_json::{Tree, read, text_of};
-
-/// The beginning of a valid description.
-const START: &str =
-    r#"{"@context":"https://www.w3.org/2022/wot/td/v1.1","security":"n","securityDefinitions":{"n":{"scheme":"nosec"}},"title":"T""#;
-
-/// The tree of a JSON text; a text that is none counts as out of memory.
-fn tree_of(alloc: Global, text: &str) -> Result<Tree, AllocError> {
-    match read(alloc, text.as_bytes()) {
-        Ok(tree) => Ok(tree),
-        Err(_) => Err(AllocError),
-    }
-}
-
-/// The description with these further members.
-fn described(alloc: Global, members: &str) -> Result<Tree, AllocError> {
-    let mut text = String::from_str(alloc, START)?;
-    if !members.is_empty() {
-        text.push_str(",")?;
-        text.push_str(members)?;
-    }
-    text.push_str("}")?;
-    tree_of(alloc, text.as_str())
-}
+use wot_json::{Tree, text_of};
 
 /// The id of these bytes in text.
 fn id_of(alloc: Global, written: &str) -> Result<String, AllocError> {
@@ -193,15 +171,9 @@ fn put_step(
 /// Out of memory alone.
 pub fn put_history(text: &mut String, alloc: Global, block: &str) -> Result<(), AllocError> {
     let mut directory = Directory::new(alloc);
-    for line in block.lines() {
-        match line.split_once(" => ") {
-            Some((step, _wanted)) => {
-                write!(text, "{step} => ")?;
-                put_step(text, alloc, &mut directory, step)?;
-            }
-            None => text.push_str(line)?,
-        }
-        text.push_str("\n")?;
-    }
-    Ok(())
+    put_rows(
+        text,
+        block,
+        |text, step| put_step(text, alloc, &mut directory, step),
+    )
 }

@@ -5,8 +5,9 @@ ghost use Rattle.std.specs.List.{AllByRecursion};
 ghost use Rattle.wot_terms.specs.Faults.{IsValid};
 
 use crate::case::Case;
-use crate::devices::Device;
 use crate::histories::put_steps;
+use cases_notation::{put_histories, put_rows};
+use cases_values::Device;
 use std::alloc::{AllocError, Global};
 use std::fmt::Write;
 use thing_core::{ExposeFault, Exposed};
@@ -45,17 +46,7 @@ fn put_fault(text: &mut String, fault: &ExposeFault) -> Result<(), AllocError> {
 
 /// Writes a case whose Things don't fit, so that each step says that.
 fn put_unfit(text: &mut String, fault: &ExposeFault, block: &str) -> Result<(), AllocError> {
-    for line in block.lines() {
-        match line.split_once(" => ") {
-            Some((step, _wanted)) => {
-                write!(text, "{step} => ")?;
-                put_fault(text, fault)?;
-            }
-            None => text.push_str(line)?,
-        }
-        text.push_str("\n")?;
-    }
-    Ok(())
+    put_rows(text, block, |text, _step| put_fault(text, fault))
 }
 
 /// The handler of a device.
@@ -113,11 +104,7 @@ fn take(case: &mut Case, block: &str) -> Result<(), AllocError> {
 }
 
 /// Writes a case with what comes of its steps.
-///
-/// # Errors
-///
-/// Out of memory alone.
-pub fn put_case(
+fn put_case(
     text: &mut String,
     alloc: Global,
     shared: &mut String,
@@ -135,4 +122,19 @@ pub fn put_case(
     take(&mut case, block)?;
     take(&mut case, shared.as_str())?;
     put_exposed(text, alloc, case, block)
+}
+
+/// Writes the cases of a file, each with what comes of its steps. The lines of a case without steps count for each that
+/// comes after it.
+///
+/// # Errors
+///
+/// Out of memory alone.
+pub fn put_cases(text: &mut String, alloc: Global, lines: &str) -> Result<(), AllocError> {
+    let mut shared = String::new(alloc);
+    put_histories(
+        text,
+        lines,
+        |text, block| put_case(text, alloc, &mut shared, block),
+    )
 }

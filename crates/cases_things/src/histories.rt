@@ -17,7 +17,7 @@ ghost use Rattle.thing_site.specs.Fits.{Fits};
 use crate::asking::{Ask, ask_of, conditions_of};
 use crate::outcomes::put_answer;
 use crate::paths::path_of;
-use cases_notation::{bytes_of, number, put};
+use cases_notation::{bytes_of, number, put, put_given};
 use std::alloc::{AllocError, Global};
 use std::fmt::Write;
 use thing_core::{Exposed, a_rack_fits_on, a_rack_fits_on_after_polls};
@@ -251,7 +251,7 @@ fn put_line<R: Handlers>(
 {
     match line.split_once(" => ") {
         Some((step, _wanted)) => {
-            write!(text, "{step} => ")?;
+            put_given(text, step)?;
             put_step(text, alloc, exposed, rack, step)
         }
         None => text.push_str(line),

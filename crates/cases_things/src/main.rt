@@ -6,7 +6,6 @@
 
 mod asking;
 mod case;
-mod devices;
 mod directory;
 mod exposing;
 mod histories;
@@ -14,8 +13,9 @@ mod outcomes;
 mod paths;
 mod routes;
 
+use cases_notation::{print_files, put_histories, put_rows};
 use std::alloc::{AllocError, Global};
-use std::{env, fs, io};
+use std::io;
 
 /// Writes the outcome of a row of this table. The text is lent, since a function pays at each early exit for what it
 /// owns.
@@ -29,61 +29,25 @@ fn put_row(text: &mut String, alloc: Global, table: &str, given: &str) -> Result
     }
 }
 
-/// Writes the rows of a table, each with what comes of it.
-fn put_rows(text: &mut String, alloc: Global, table: &str, lines: &str) -> Result<(), AllocError> {
-    for line in lines.lines() {
-        match line.split_once(" => ") {
-            Some((given, _wanted)) => {
-                text.push_str(given)?;
-                text.push_str(" => ")?;
-                put_row(text, alloc, table, given)?;
-            }
-            None => text.push_str(line)?,
-        }
-        text.push_str("\n")?;
-    }
-    Ok(())
-}
-
-/// Writes the histories of a file, each with what comes of it.
-fn put_histories(
-    text: &mut String,
-    alloc: Global,
-    table: &str,
-    lines: &str,
-) -> Result<(), AllocError> {
-    let mut shared = String::new(alloc);
-    for (place, block) in lines.split("\n\n").enumerate() {
-        if place > 0 {
-            text.push_str("\n")?;
-        }
-        match table {
-            "directory" => directory::put_history(text, alloc, block)?,
-            _ => exposing::put_case(text, alloc, &mut shared, block)?,
-        }
-    }
-    Ok(())
-}
-
-/// The cases of the file of this name, with their results.
-fn page(alloc: Global, table: &str, lines: &str) -> Result<String, AllocError> {
-    let mut text = String::new(alloc);
+/// Writes the cases of a file, with their results.
+fn put_file(text: &mut String, alloc: Global, table: &str, lines: &str) -> Result<(), AllocError> {
     match table {
-        "directory" | "exposing" | "acts" => put_histories(&mut text, alloc, table, lines)?,
-        _ => put_rows(&mut text, alloc, table, lines)?,
+        "directory" => {
+            put_histories(
+                text,
+                lines,
+                |text, history| directory::put_history(text, alloc, history),
+            )
+        }
+        "exposing" | "acts" => exposing::put_cases(text, alloc, lines),
+        _ => put_rows(
+            text,
+            lines,
+            |text, given| put_row(text, alloc, table, given),
+        ),
     }
-    Ok(text)
-}
-
-/// Prints a file with what comes of it.
-fn print(rt: &HostRuntime, table: &str) -> io::Result<()> {
-    let lines = fs::read_to_string(rt, table)?;
-    rt.print(page(rt.alloc(), table, lines.as_str())?)
 }
 
 fn main(rt: HostRuntime) -> io::Result<()> {
-    for table in env::args(&rt)?.skip(1) {
-        print(&rt, table.as_str())?;
-    }
-    Ok(())
+    print_files(&rt, put_file)
 }

@@ -11,8 +11,8 @@
 //! trees      push JSON and JSON => JSON, N     an object of two members, `a` and `b`, and its size
 //! ```
 
-use crate::expansion::size_of;
 use crate::json_texts::put_tree;
+use cases_notation::size_of;
 use std::alloc::{AllocError, Global};
 use std::fmt::Write;
 use wot_json::{

@@ -9,15 +9,14 @@ mod descriptions;
 mod displays;
 mod documents;
 mod encodings;
-mod expansion;
 mod forms;
 mod generated_forms;
 mod json_texts;
 mod schemas;
 
-use expansion::expanded;
+use cases_notation::{Row, expanded, print_files, put_came, put_rows_about};
 use std::alloc::{AllocError, Global};
-use std::{env, fs, io};
+use std::io;
 
 /// Says what comes of a row in this table. `shared` is what the rows are about.
 fn put_said(
@@ -49,106 +48,30 @@ fn put_said(
     }
 }
 
-/// The same of a row whose repeats are to be written out.
-fn put_expanded(
+/// Writes what comes of a row, once its repeats are written out.
+fn put_row(
+    text: &mut String,
     said: &mut String,
     alloc: Global,
     table: &str,
-    shared: &str,
-    given: &str,
+    row: Row<'_>,
 ) -> Result<(), AllocError> {
-    let given = expanded(alloc, given)?;
-    put_said(said, alloc, table, shared, given.as_str())
+    let given = expanded(alloc, row.given)?;
+    said.clear();
+    put_said(said, alloc, table, row.about, given.as_str())?;
+    put_came(text, alloc, row.wanted, said.as_str())
 }
 
-/// Writes what came: as it was to come, if that means the same with its repeats written out.
-fn put_came(text: &mut String, alloc: Global, wanted: &str, said: &str) -> Result<(), AllocError> {
-    if wanted.contains("repeat(") {
-        let whole = expanded(alloc, wanted)?;
-        return text.push_str(if whole.as_str() == said { wanted } else { said });
-    }
-    text.push_str(said)
-}
-
-/// Writes a row with what comes of it.
-fn put_row(
-    text: &mut String,
-    said: &str,
-    alloc: Global,
-    given: &str,
-    wanted: &str,
-) -> Result<(), AllocError> {
-    text.push_str(given)?;
-    text.push_str(" => ")?;
-    put_came(text, alloc, wanted, said)
-}
-
-/// The state that a table keeps from line to line.
-#[derive(Drop)]
-struct Sheet {
-    /// The result of the last row.
-    said: String,
-    /// The text that rows are about.
-    shared: String,
-}
-
-/// Takes what the rows after a line are about, if it says that, and writes the line as it is.
-fn put_other(text: &mut String, sheet: &mut Sheet, line: &str) -> Result<(), AllocError> {
-    if let Some(rest) = line.strip_prefix("given ") {
-        sheet.shared.clear();
-        sheet.shared.push_str(rest)?;
-    }
-    text.push_str(line)
-}
-
-/// Writes a line of a table.
-fn put_line(
-    text: &mut String,
-    sheet: &mut Sheet,
-    alloc: Global,
-    table: &str,
-    line: &str,
-) -> Result<(), AllocError> {
-    match line.split_once(" => ") {
-        Some((given, wanted)) => {
-            sheet.said.clear();
-            put_expanded(&mut sheet.said, alloc, table, sheet.shared.as_str(), given)?;
-            put_row(text, sheet.said.as_str(), alloc, given, wanted)?;
-        }
-        None => put_other(text, sheet, line)?,
-    }
-    text.push_str("\n")
-}
-
-/// Writes the lines of a table with what comes of them. The text is lent, because a function that owned it too would
-/// give up both at each `?`.
-fn put_page(text: &mut String, alloc: Global, table: &str, lines: &str) -> Result<(), AllocError> {
-    let mut sheet = Sheet {
-        said: String::new(alloc),
-        shared: String::new(alloc),
-    };
-    for line in lines.lines() {
-        put_line(text, &mut sheet, alloc, table, line)?;
-    }
-    Ok(())
-}
-
-/// The lines of a table with what comes of them.
-fn page(alloc: Global, table: &str, lines: &str) -> Result<String, AllocError> {
-    let mut text = String::new(alloc);
-    put_page(&mut text, alloc, table, lines)?;
-    Ok(text)
-}
-
-/// Prints a table.
-fn print(rt: &HostRuntime, table: &str) -> io::Result<()> {
-    let lines = fs::read_to_string(rt, table)?;
-    rt.print(page(rt.alloc(), table, lines.as_str())?)
+/// Writes the lines of a table with what comes of them.
+fn put_file(text: &mut String, alloc: Global, table: &str, lines: &str) -> Result<(), AllocError> {
+    let mut said = String::new(alloc);
+    put_rows_about(
+        text,
+        lines,
+        |text, row| put_row(text, &mut said, alloc, table, row),
+    )
 }
 
 fn main(rt: HostRuntime) -> io::Result<()> {
-    for table in env::args(&rt)?.skip(1) {
-        print(&rt, table.as_str())?;
-    }
-    Ok(())
+    print_files(&rt, put_file)
 }

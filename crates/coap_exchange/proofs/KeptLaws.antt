@@ -13,12 +13,15 @@ use Rattle.coap_msg.specs.Buckets.{bucket}
 use Rattle.slot_lists.specs.Lists.{Lists, list_at, with_list, is_among, without}
 use Rattle.slot_lists.proofs.Among.{neither}
 use Rattle.coap_exchange.specs.Admission.{lives, is_same_exchange}
-use Rattle.coap_exchange.specs.Slots.{arrival_of, is_of, entry_at, exchange_at, once_below, times_in, age_list, age_list_at, bucket_at, AreDealt}
+use Rattle.coap_exchange.specs.Slots.{arrival_of, is_of, entry_at, exchange_at, age_list, age_list_at, bucket_at, AreDealt}
+use Rattle.slot_lists.specs.Counts.{once_below, times_in}
 use Rattle.coap_exchange.specs.Kept.{living_slots, free_slots, arrival_at, IsKept}
 use Rattle.coap_exchange.specs.Table.{Exchange}
 use Rattle.coap_exchange.specs.declared.entry.Entry.{Entry}
 use Rattle.coap_exchange.specs.declared.exchanges.Exchanges.TheInside.{Inside}
-use Rattle.coap_exchange.proofs.SlotLaws.{same_slot, not_at, not_this, times_moved, length-without, dealt_without, dealt_push, dealt_beside, dealt_elsewhere, absent_without, uncounted_is_absent, once_at_most, filter_has, among_counted}
+use Rattle.coap_exchange.proofs.SlotLaws.{not_at, not_this, dealt_without, dealt_push, dealt_beside, dealt_elsewhere, absent_without, filter_has}
+use Rattle.slot_lists.proofs.Among.{same_slot}
+use Rattle.slot_lists.proofs.Counts.{times_moved, length-without, uncounted_is_absent, once_at_most, among_counted}
 use Rattle.coap_exchange.proofs.TableLaws.{living_once, free_is_place}
 
 -- ---- the lists of kinds

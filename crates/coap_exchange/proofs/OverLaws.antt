@@ -15,7 +15,8 @@ use Rattle.coap_exchange.specs.Slots.{exchange_at, age_list, age_list_at}
 use Rattle.coap_exchange.specs.Kept.{table_of, living_slots, arrival_at, IsKept, AllLive, IsOver}
 use Rattle.coap_exchange.specs.Table.{Exchange, Table, at_moment}
 use Rattle.coap_exchange.specs.declared.exchanges.Exchanges.TheInside.{Inside}
-use Rattle.coap_exchange.proofs.SlotLaws.{same_slot, among_at, at_member, among_filter, filter_has}
+use Rattle.coap_exchange.proofs.SlotLaws.{among_at, at_member, among_filter, filter_has}
+use Rattle.slot_lists.proofs.Among.{same_slot}
 use Rattle.coap_exchange.proofs.TableLaws.{lives_in_slot}
 use Rattle.coap_exchange.proofs.KeptLaws.{age_list_bound}
 

@@ -1,112 +1,18 @@
--- Lists of slots: the number of times that one is there, and the way in which they are dealt to lists by a number.
-use Rattle.std.proofs.Common.{◌≡◌, ◌≢◌, ◌⊎◌, ◌+◌, ◌≤◌, ◌<◌, ◌==◌, ◌||◌, ℕ, zero, suc, Bool, true, false, cond, not, List, [], ◌∷◌, ◌++◌, length, get_or, set, Option, Some, inl, inr, ◌∙◌, sym, refl, ap, subst, arith}
-use Rattle.std.specs.Prelude.{nat_lt, All}
+-- Lists of slots: their members, and the way in which they are dealt to lists by a number.
+use Rattle.std.proofs.Common.{◌≡◌, ◌≢◌, ◌⊎◌, ◌+◌, ◌≤◌, ◌<◌, ◌==◌, ℕ, zero, suc, Bool, true, false, cond, not, List, [], ◌∷◌, ◌++◌, length, get_or, set, Some, inl, inr, ◌∙◌, sym, refl, ap, subst, arith}
+use Rattle.std.specs.Prelude.{All}
 use Rattle.std.specs.List.{filter, find}
 use Rattle.std.proofs.lemmas.Bool.Decides.{nat_tests, eqb_tells}
 use Rattle.std.proofs.lemmas.List.{get_or-set_same, get_or-set_other, get_or_past, length-set, append-nil}
 use Rattle.std.proofs.lemmas.Bool.{cases_lt}
 use Rattle.std.proofs.lemmas.List.Elements.{filter-append}
-use Rattle.slot_lists.specs.Lists.{is_among, without, from_slot}
+use Rattle.slot_lists.specs.Lists.{is_among, without}
+use Rattle.slot_lists.proofs.Counts.{times_without_same, uncounted_is_absent}
 use Rattle.slot_lists.proofs.Among.{either, is_same, among_first, among_rest, without_absent}
-use Rattle.coap_exchange.specs.Slots.{once_below, times_in, AreDealt}
-use Rattle.coap_exchange.proofs.ListLaws.{times-append}
-
-pub same_slot : (n : ℕ) → (n == n) ≡ true
-same_slot n = grind (arith, nat_tests)
+use Rattle.coap_exchange.specs.Slots.{AreDealt}
 
 pub turned_test : (a b : ℕ) → (a == b) ≡ (b == a)
 turned_test a b = grind (arith, nat_tests)
-
--- ---- the number of times that a slot is there
-
--- a slot that is counted is below the limit, and no slot is counted twice
-below_at : (s n : ℕ) (b : Bool) → nat_lt s n ≡ b → 1 ≤ cond b 1 0 → s < n
-below_at s n true e h = grind (arith, nat_tests)
-below_at s n false e h = absurd (omega arith)
-
-pub once_is_below : (s n : ℕ) → 1 ≤ once_below s n → s < n
-once_is_below s n h = below_at s n (nat_lt s n) refl h
-
-at_most_at : (b : Bool) → cond b 1 0 ≤ 1
-at_most_at true = omega arith
-at_most_at false = omega arith
-
-pub once_at_most : (s n : ℕ) → once_below s n ≤ 1
-once_at_most s n = at_most_at (nat_lt s n)
-
-pub not_below : (s n : ℕ) → n ≤ s → once_below s n ≡ 0
-not_below s n h = grind (arith, nat_tests)
-
--- one slot more below the limit
-pub once_more : (s n : ℕ) → once_below s (n + 1) ≡ once_below s n + cond (n == s) 1 0
-once_more s n = grind (arith, nat_tests)
-
-pub times_in-append : (s : ℕ) (xs ys : List ℕ) → times_in s (xs ++ ys) ≡ times_in s xs + times_in s ys
-times_in-append s xs ys = times-append (λ x. x == s) xs ys
-
-pub slots_more : (s n : ℕ) (free : List ℕ) → times_in s free ≡ once_below s n → times_in s (free ++ n ∷ []) ≡ once_below s (n + 1)
-slots_more s n free e = omega (arith, once_more s n, times_in-append s free (n ∷ []))
-
-pub among_counted : (s : ℕ) (xs : List ℕ) → is_among s xs ≡ true → 1 ≤ times_in s xs
-among_counted s [] h = absurd cc
-among_counted s (x ∷ xs) h = elim (either (s == x) (is_among s xs) h) [
-  | inl e ↦ let here : (x == s) ≡ true = turned_test x s ∙ e in rw here (omega arith)
-  | inr m ↦ omega (arith, among_counted s xs m)
-]
-
-absent_at : (s x n : ℕ) (b c : Bool) (rest : Bool) → c ≡ b → (n ≡ 0 → rest ≡ false) → cond c 1 0 + n ≡ 0 → (b || rest) ≡ false
-absent_at s x n true true rest e rec h = absurd (omega arith)
-absent_at s x n true false rest e rec h = absurd cc
-absent_at s x n false true rest e rec h = absurd cc
-absent_at s x n false false rest e rec h = rec (omega arith)
-
-pub uncounted_is_absent : (s : ℕ) (xs : List ℕ) → times_in s xs ≡ 0 → is_among s xs ≡ false
-uncounted_is_absent s [] h = refl
-uncounted_is_absent s (x ∷ xs) h = absent_at s x (times_in s xs) (s == x) (x == s) (is_among s xs) (turned_test x s) (uncounted_is_absent s xs) h
-
--- a slot that is taken out, and the others
-times_kept : (s x n m : ℕ) (b : Bool) → m ≡ n → cond b 1 0 + m ≡ cond b 1 0 + n
-times_kept s x n m b e = ap (λ k. cond b 1 0 + k) e
-
-pub times_without_other : (s slot : ℕ) (xs : List ℕ) → s ≢ slot → times_in s (without slot xs) ≡ times_in s xs
-times_without_other s slot [] h = refl
-times_without_other s slot (x ∷ xs) h = elim (eqb_tells slot x) [
-  | inl w ↦
-      let other : (x == s) ≡ false = elim (eqb_tells x s) [ inl v ↦ absurd (h (sym (w.1 ∙ v.1))) | inr v ↦ v.0 ] in
-      let rest : times_in s (without slot xs) ≡ times_in s xs = times_without_other s slot xs h in
-      rw (w.0, other) (omega arith)
-  | inr w ↦ rw w.0 (ap (λ k. cond (x == s) 1 0 + k) (times_without_other s slot xs h))
-]
-
-pub times_without_same : (slot : ℕ) (xs : List ℕ) → times_in slot (without slot xs) ≡ 0
-times_without_same slot [] = refl
-times_without_same slot (x ∷ xs) = elim (eqb_tells slot x) [
-  | inl w ↦ rw w.0 (times_without_same slot xs)
-  | inr w ↦ let other : (x == slot) ≡ false = turned_test x slot ∙ w.0 in let rest : times_in slot (without slot xs) ≡ 0 = times_without_same slot xs in rw (w.0, other) (omega arith)
-]
-
-pub length-without : (slot : ℕ) (xs : List ℕ) → length (without slot xs) + times_in slot xs ≡ length xs
-length-without slot [] = refl
-length-without slot (x ∷ xs) = elim (eqb_tells slot x) [
-  | inl w ↦ let here : (x == slot) ≡ true = turned_test x slot ∙ w.0 in rw (w.0, here) (omega (arith, length-without slot xs))
-  | inr w ↦ let other : (x == slot) ≡ false = turned_test x slot ∙ w.0 in rw (w.0, other) (omega (arith, length-without slot xs))
-]
-
--- a slot that goes from one list to the end of another
-pub times_moved : (s slot : ℕ) (xs ys : List ℕ) → times_in slot xs ≡ 1 → times_in s (without slot xs) + times_in s (ys ++ slot ∷ []) ≡ times_in s xs + times_in s ys
-times_moved s slot xs ys once = elim (eqb_tells s slot) [
-  | inl w ↦
-      let here : (slot == s) ≡ true = turned_test slot s ∙ w.0 in
-      let left : times_in s (without slot xs) ≡ 0 = subst (λ n. times_in n (without slot xs) ≡ 0) (sym w.1) (times_without_same slot xs) in
-      let had : times_in s xs ≡ 1 = subst (λ n. times_in n xs ≡ 1) (sym w.1) once in
-      let more : times_in s (ys ++ slot ∷ []) ≡ times_in s ys + 1 = times_in-append s ys (slot ∷ []) ∙ rw here refl in
-      omega arith
-  | inr w ↦
-      let other : (slot == s) ≡ false = turned_test slot s ∙ w.0 in
-      let left : times_in s (without slot xs) ≡ times_in s xs = times_without_other s slot xs w.1 in
-      let more : times_in s (ys ++ slot ∷ []) ≡ times_in s ys + 0 = times_in-append s ys (slot ∷ []) ∙ rw other refl in
-      omega arith
-]
 
 -- ---- members
 
@@ -270,19 +176,3 @@ dealt_elsewhere number first slot i slots lists h least other = elim (cases_lt i
       other (is_same (number slot) i both.0) both.1)
   | inr past ↦ ap (is_among slot) (get_or_past lists i [] past)
 ]
-
--- ---- a search from slot to slot
-
-pub found_at_slot : (p : ℕ → Bool) (slot : ℕ) (xs : List ℕ) → is_among slot xs ≡ true → p slot ≡ true → find p (from_slot (Some slot) xs) ≡ Some slot
-found_at_slot p slot [] m t = absurd cc
-found_at_slot p slot (x ∷ xs) m t = elim (eqb_tells slot x) [
-  | inl w ↦ let passes : p x ≡ true = subst (λ n. p n ≡ true) w.1 t in rw (w.0, passes) (ap (λ n. Some n) (sym w.1))
-  | inr w ↦
-      let later : is_among slot xs ≡ true = subst (λ b. (b || is_among slot xs) ≡ true) w.0 m in
-      let rest : find p (from_slot (Some slot) xs) ≡ Some slot = found_at_slot p slot xs later t in
-      rw w.0 rest
-]
-
-pub found_further : (p : ℕ → Bool) (slot : ℕ) (next : Option ℕ) (xs : List ℕ) → from_slot (Some slot) xs ≡ slot ∷ from_slot next xs → p slot ≡ false
-    → find p (from_slot (Some slot) xs) ≡ find p (from_slot next xs)
-found_further p slot next xs e f = ap (find p) e ∙ rw f refl

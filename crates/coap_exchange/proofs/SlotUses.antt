@@ -8,7 +8,7 @@ use Rattle.coap_exchange.specs.Table.{Exchange, Table, exchange_in, with_exchang
 use Rattle.coap_exchange.specs.declared.met.Met.{Met}
 use Rattle.coap_exchange.specs.declared.met.Met.TheVariants.{Fresh, Repeat, Full}
 use Rattle.coap_exchange.proofs.ListLaws.{option_map_some}
-use Rattle.coap_exchange.proofs.SlotLaws.{same_slot}
+use Rattle.slot_lists.proofs.Among.{same_slot}
 
 -- no request changes the moment
 pub moment_after : (t : Table) (a : Arrival) (met : Met) (u : Table) → Meets t a met u → u.moment ≡ t.moment

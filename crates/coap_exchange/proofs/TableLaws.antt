@@ -12,14 +12,17 @@ use Rattle.coap_msg.specs.declared.message.RequestType.TheVariants.{Confirmable,
 use Rattle.slot_lists.specs.Lists.{is_among, without}
 use Rattle.slot_lists.proofs.Among.{either, is_same, among_first, among_rest}
 use Rattle.coap_exchange.specs.Admission.{Arrival, lifetime, lives, is_duplicate_of}
-use Rattle.coap_exchange.specs.Slots.{arrival_of, is_of, entry_at, exchange_at, times_in, bucket_at}
+use Rattle.coap_exchange.specs.Slots.{arrival_of, is_of, entry_at, exchange_at, bucket_at}
+use Rattle.slot_lists.specs.Counts.{times_in}
 use Rattle.coap_msg.specs.Buckets.{bucket}
 use Rattle.coap_exchange.specs.Kept.{table_of, living_slots, free_slots, arrival_at, IsKept}
 use Rattle.coap_exchange.specs.Table.{Exchange, exchange_in, answered, duplicated_exchange}
 use Rattle.coap_exchange.specs.declared.entry.Entry.{Entry}
 use Rattle.coap_exchange.specs.declared.exchanges.Exchanges.TheInside.{Inside}
 use Rattle.coap_exchange.proofs.ListLaws.{find-map, filter-map, option_map_some, find_agreeing}
-use Rattle.coap_exchange.proofs.SlotLaws.{same_slot, turned_test, once_is_below, once_at_most, among_counted, uncounted_is_absent, find_in_filter}
+use Rattle.coap_exchange.proofs.SlotLaws.{turned_test, find_in_filter}
+use Rattle.slot_lists.proofs.Among.{same_slot}
+use Rattle.slot_lists.proofs.Counts.{once_is_below, once_at_most, among_counted, uncounted_is_absent}
 
 -- ---- the exchange in a slot
 

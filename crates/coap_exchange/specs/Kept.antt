@@ -4,7 +4,8 @@ use Rattle.std.specs.Prelude.{◌≡◌, ◌+◌, ◌≤◌, ◌<◌, ℕ, List,
 use Rattle.coap_msg.specs.declared.message.RequestType.{RequestType}
 use Rattle.slot_lists.specs.Lists.{list_at}
 use Rattle.coap_exchange.specs.Admission.{Arrival, lives, is_same_exchange}
-use Rattle.coap_exchange.specs.Slots.{arrival_of, entry_at, exchange_at, once_below, times_in, age_list_at, bucket_at, AreDealt}
+use Rattle.coap_exchange.specs.Slots.{arrival_of, entry_at, exchange_at, age_list_at, bucket_at, AreDealt}
+use Rattle.slot_lists.specs.Counts.{once_below, times_in}
 use Rattle.coap_exchange.specs.Table.{Exchange, Table, at_moment, exchange_in}
 use Rattle.coap_exchange.specs.declared.exchanges.Exchanges.TheInside.{Inside}
 

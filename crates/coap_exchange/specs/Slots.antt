@@ -1,5 +1,5 @@
 -- Inside: the contents of slots.
-use Rattle.std.specs.Prelude.{◌≡◌, ◌+◌, ◌≤◌, ◌<◌, ◌==◌, ◌&&◌, ℕ, Bool, List, [], ◌∷◌, length, filter, Option, None, slice_index_or, if◌then◌else◌, nat_lt}
+use Rattle.std.specs.Prelude.{◌≡◌, ◌+◌, ◌≤◌, ◌<◌, ◌==◌, ◌&&◌, ℕ, Bool, List, [], ◌∷◌, length, filter, Option, None, slice_index_or, if◌then◌else◌}
 use Rattle.coap_msg.specs.declared.endpoint.Endpoint.{Endpoint}
 use Rattle.coap_msg.specs.declared.message.RequestType.{RequestType}
 use Rattle.coap_msg.specs.declared.message.RequestType.TheVariants.{Confirmable, NonConfirmable}
@@ -28,18 +28,10 @@ entry_at entries slot = slice_index_or entries slot no_entry
 abbrev pub exchange_at : List Entry → List (Option (List ℕ)) → ℕ → Exchange
 exchange_at entries replies slot = record { arrival = arrival_of (entry_at entries slot); slot = slot; reply = slice_index_or replies slot None }
 
--- a number that is below another counts once, and else not at all
-abbrev pub once_below : ℕ → ℕ → ℕ
-once_below n limit = if nat_lt n limit then 1 else 0
-
 -- the number of elements of a list that pass a test
 abbrev pub times : {A : Type 0} → (A → Bool) → List A → ℕ
 times p [] = 0
 times p (x ∷ xs) = (if p x then 1 else 0) + times p xs
-
--- the number of times that a slot is in a list
-abbrev pub times_in : ℕ → List ℕ → ℕ
-times_in slot slots = times (λ s. s == slot) slots
 
 -- the list of a kind: the first list is that of the free slots
 abbrev pub age_list : RequestType → ℕ

@@ -2,7 +2,8 @@
 
 ghost use Rattle.std.specs.Prelude.{◌≡◌, ◌≤◌, ◌<◌, ◌+◌, [], ℕ, IfOk, find, length, replicate};
 ghost use Rattle.slot_lists.specs.Lists.{list_at, Lists};
-ghost use Rattle.coap_exchange.specs.Slots.{entry_at, is_of, no_entry, once_below, times_in};
+ghost use Rattle.coap_exchange.specs.Slots.{entry_at, is_of, no_entry};
+ghost use Rattle.slot_lists.specs.Counts.{once_below, times_in};
 
 use crate::entry::Entry;
 use crate::{ExchangeSlot, NoMemory};

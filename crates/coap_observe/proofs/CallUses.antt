@@ -5,11 +5,12 @@ use Rattle.slot_lists.specs.Lists.{Lists, list_at, is_among, without, first_of}
 use Rattle.coap_observe.specs.declared.observer.Observer.{Observer}
 use Rattle.coap_observe.specs.Buckets.{target_bucket, endpoint_bucket}
 use Rattle.std.proofs.lemmas.List.{length-map}
-use Rattle.coap_observe.specs.Kept.{observer_at, changed_among, place_at, target_bucket_at, endpoint_bucket_at, times_in, used_slots, free_slots, AreKept, places_in, pushed_at, without_at}
+use Rattle.coap_observe.specs.Kept.{observer_at, changed_among, place_at, target_bucket_at, endpoint_bucket_at, used_slots, free_slots, AreKept, places_in, pushed_at, without_at}
+use Rattle.slot_lists.specs.Counts.{times_in}
 use Rattle.coap_observe.specs.Places.{Place, Places, IsAt, IsUsed, with_change, with_changes, without_slot, IsAdded, sent_once_more}
 use Rattle.coap_observe.specs.Watching.{where_so, is_of_target, marked, renewed, resent, replaced}
 use Rattle.coap_observe.proofs.KeptLaws.{free_place, moved_there, moved_away, kept_added, kept_removed, kept_replaced, kept_at, kept_changed, in_its_target, in_its_endpoint, taken_from_free, taken_from_used, taken_from_target}
-use Rattle.coap_observe.proofs.SlotLaws.{length-without, uncounted_is_absent}
+use Rattle.slot_lists.proofs.Counts.{length-without, uncounted_is_absent}
 use Rattle.coap_observe.proofs.PlaceLaws.{used_in, slot_below, place_in, seen_changed, seen_all_changed, seen_without, seen_added, target_bucket_below, endpoint_bucket_below}
 use Rattle.coap_observe.proofs.WalkLaws.{read_observer}
 

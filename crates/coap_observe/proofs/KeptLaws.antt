@@ -5,8 +5,11 @@ use Rattle.std.proofs.lemmas.List.{get_or-set_same, get_or-set_other, length-set
 use Rattle.slot_lists.specs.Lists.{Lists, list_at, is_among, without, empty_lists}
 use Rattle.coap_observe.specs.declared.observer.Observer.{Observer}
 use Rattle.coap_observe.specs.Buckets.{target_bucket, endpoint_bucket}
-use Rattle.coap_observe.specs.Kept.{observer_at, target_bucket_at, endpoint_bucket_at, times_in, once_below, AreDealt, used_slots, free_slots, AreKept, pushed_at, without_at}
-use Rattle.coap_observe.proofs.SlotLaws.{once_is_below, once_at_most, times_push, among_counted, same_slot, other_slot, times_without_other, times_without_same, length-without, popped_in_none, undealt, dealt_once, dealt_there, dealt_push, dealt_pop, dealt_same, zero_either}
+use Rattle.coap_observe.specs.Kept.{observer_at, target_bucket_at, endpoint_bucket_at, AreDealt, used_slots, free_slots, AreKept, pushed_at, without_at}
+use Rattle.slot_lists.specs.Counts.{times_in, once_below}
+use Rattle.coap_observe.proofs.SlotLaws.{popped_in_none, undealt, dealt_once, dealt_there, dealt_push, dealt_pop, dealt_same, zero_either}
+use Rattle.slot_lists.proofs.Among.{same_slot, differ}
+use Rattle.slot_lists.proofs.Counts.{times_moved, once_is_below, once_at_most, times_push, among_counted, times_without_other, times_without_same, length-without}
 
 -- ---- where a slot is
 
@@ -42,18 +45,6 @@ pub moved_away : (i j slot : ℕ) (o : Lists) → j ≢ i → j < length o.lists
 moved_away i j slot o other below =
     get_or-set_other (set o.lists j (without slot (get_or o.lists j []))) i j _ [] other ∙ get_or-set_same o.lists j (without slot (get_or o.lists j [])) [] below
 
-pub times_moved : (s slot : ℕ) (xs ys : List ℕ) → times_in slot xs ≡ 1 → times_in s (without slot xs) + times_in s (ys ++ slot ∷ []) ≡ times_in s xs + times_in s ys
-times_moved s slot xs ys once = elim (eqb_tells s slot) [
-  | inl w ↦
-      let left : times_in slot (without slot xs) ≡ 0 = times_without_same slot xs in
-      let more : times_in slot (ys ++ slot ∷ []) ≡ times_in slot ys + 1 = times_push slot slot ys ∙ ap (λ b. times_in slot ys + cond b 1 0) (same_slot slot) in
-      subst (λ z. times_in z (without slot xs) + times_in z (ys ++ slot ∷ []) ≡ times_in z xs + times_in z ys) (sym w.1) (omega arith)
-  | inr w ↦
-      let left : times_in s (without slot xs) ≡ times_in s xs = times_without_other s slot xs w.1 in
-      let more : times_in s (ys ++ slot ∷ []) ≡ times_in s ys + 0 = times_push s slot ys ∙ ap (λ b. times_in s ys + cond b 1 0) w.0 in
-      omega arith
-]
-
 pushed_once : (slot : ℕ) (xs : List ℕ) → times_in slot xs ≡ 0 → times_in slot (xs ++ slot ∷ []) ≡ 1
 pushed_once slot xs none =
     let more : times_in slot (xs ++ slot ∷ []) ≡ times_in slot xs + 1 = times_push slot slot xs ∙ ap (λ b. times_in slot xs + cond b 1 0) (same_slot slot) in
@@ -61,7 +52,7 @@ pushed_once slot xs none =
 
 pushed_others : (slot : ℕ) (xs : List ℕ) (s : ℕ) → s ≢ slot → times_in s (xs ++ slot ∷ []) ≡ times_in s xs
 pushed_others slot xs s other =
-    let more : times_in s (xs ++ slot ∷ []) ≡ times_in s xs + 0 = times_push s slot xs ∙ ap (λ b. times_in s xs + cond b 1 0) (other_slot s slot other) in
+    let more : times_in s (xs ++ slot ∷ []) ≡ times_in s xs + 0 = times_push s slot xs ∙ ap (λ b. times_in s xs + cond b 1 0) (differ s slot other) in
     omega arith
 
 -- ---- the content of a slot

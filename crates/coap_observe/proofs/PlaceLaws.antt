@@ -14,7 +14,8 @@ use Rattle.coap_msg.proofs.SameEndpoints.{both, same_endpoint}
 use Rattle.coap_observe.specs.declared.observer.Observer.{Observer}
 use Rattle.coap_msg.specs.Buckets.{bucket}
 use Rattle.coap_observe.specs.Buckets.{endpoint_bucket, target_bucket}
-use Rattle.coap_observe.specs.Kept.{observer_at, place_at, endpoint_bucket_at, times_in, used_slots, AreKept, places_in, is_sendable_at}
+use Rattle.coap_observe.specs.Kept.{observer_at, place_at, endpoint_bucket_at, used_slots, AreKept, places_in, is_sendable_at}
+use Rattle.slot_lists.specs.Counts.{times_in}
 use Rattle.coap_observe.specs.Places.{Place, Places, observers_in, is_wanted, IsAt, IsUsed, changed_in, changed_place, with_change, with_changes, without_slot, Finds, FindsFirst}
 use Rattle.coap_observe.specs.Watching.{is_busy, is_sendable, is_pair, is_named}
 use Rattle.coap_observe.specs.Sending.{Sent}
@@ -22,7 +23,8 @@ use Rattle.coap_observe.specs.declared.observer.SoughtObserver.{SoughtObserver}
 use Rattle.coap_observe.specs.declared.observer.SoughtObserver.TheVariants.{Any, SentAs, Unacknowledged, Marked}
 use Rattle.std.specs.Str.{bytes_eq}
 use Rattle.coap_observe.proofs.Counts.{none_passes, found_passes}
-use Rattle.coap_observe.proofs.SlotLaws.{counted_is_among, dealt_from}
+use Rattle.coap_observe.proofs.SlotLaws.{dealt_from}
+use Rattle.slot_lists.proofs.Counts.{counted_is_among}
 use Rattle.coap_observe.proofs.KeptLaws.{used_place, observer_stays, observer_is, in_its_endpoint}
 
 -- ---- mapped lists

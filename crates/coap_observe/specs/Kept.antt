@@ -2,8 +2,9 @@
 -- one is in the list of the free slots once, and in no other. One with an observer is once in the list of all, in the
 -- order of registration, once in the list of the bucket of its target, and once in the list of the bucket of its
 -- endpoint. The lists hold nothing else.
-use Rattle.std.specs.Prelude.{◌≡◌, ◌+◌, ◌<◌, ◌==◌, ◌&&◌, ℕ, Bool, not, List, [], ◌∷◌, ◌++◌, length, map, find, slice_index_or, is_some, if◌then◌else◌, nat_lt}
+use Rattle.std.specs.Prelude.{◌≡◌, ◌+◌, ◌<◌, ◌==◌, ◌&&◌, ℕ, Bool, not, List, [], ◌∷◌, ◌++◌, length, map, find, slice_index_or, is_some, if◌then◌else◌}
 use Rattle.coap_msg.specs.declared.endpoint.Endpoint.{Endpoint}
+use Rattle.slot_lists.specs.Counts.{times_in, once_below}
 use Rattle.slot_lists.specs.Lists.{Lists, list_at, with_list, is_among, without}
 use Rattle.coap_observe.specs.declared.observer.Observer.{Observer}
 use Rattle.coap_observe.specs.declared.slots.ObserverSlots.TheInside.{Inside}
@@ -28,15 +29,6 @@ target_bucket_at count observers slot = target_bucket count (observer_at observe
 
 abbrev pub endpoint_bucket_at : ℕ → List Observer → ℕ → ℕ
 endpoint_bucket_at count observers slot = endpoint_bucket count (observer_at observers slot).from
-
--- the number of times that a slot is in a list
-abbrev pub times_in : ℕ → List ℕ → ℕ
-times_in slot [] = 0
-times_in slot (other ∷ others) = (if slot == other then 1 else 0) + times_in slot others
-
--- a number that is below another counts once, and else not at all
-abbrev pub once_below : ℕ → ℕ → ℕ
-once_below n limit = if nat_lt n limit then 1 else 0
 
 -- the observer of a slot is changed, if the slot is in a list
 abbrev pub changed_among : List ℕ → (Observer → Observer) → ℕ → Observer → Observer

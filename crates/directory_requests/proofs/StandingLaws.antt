@@ -10,8 +10,8 @@ use Rattle.wot_json.specs.Tree.{Json}
 use Rattle.wot_directory.specs.Contents.{Contents}
 use Rattle.wot_registry.specs.Times.{Times, times_of, expiry, is_reached, stands_by, is_standing, standing_entries}
 use Rattle.wot_registry.specs.Registry.{Registered, standing}
-use Rattle.directory_requests.specs.declared.server.Entries.{Entries}
-use Rattle.directory_requests.specs.declared.server.Entries.TheVariants as kept
+use Rattle.directory_requests.specs.declared.server.ServedEntries.{ServedEntries}
+use Rattle.directory_requests.specs.declared.server.ServedEntries.TheVariants as kept
 use Rattle.directory_requests.specs.Requests.{standing_at}
 
 abbrev TimesList : Type 0
@@ -59,12 +59,12 @@ entries_later : {X : Type 0} (n m : ℕ) (ts : TimesList) (es : List (List ℕ �
 entries_later n m ts es sooner =
     part_of_part (is_standing n ts) (is_standing m ts) (is_standing m (standing_entries n ts ts)) es (still_standing n m ts) (λ id. stood n m (times_of id ts) sooner)
 
-pub standing_later : (n m : ℕ) (d : Entries) → n ≤ m → standing_at m (standing_at n d) ≡ standing_at m d
+pub standing_later : (n m : ℕ) (d : ServedEntries) → n ≤ m → standing_at m (standing_at n d) ≡ standing_at m d
 standing_later n m (kept.Untimed d) sooner = refl
 standing_later n m (kept.Timed r) sooner =
     ap₂ (λ (es : List (List ℕ × Json)) (ts : TimesList). kept.Timed (record r { contents = record r.contents { entries = es }; times = ts }))
     (entries_later n m r.times r.contents.entries sooner) (entries_later n m r.times r.times sooner)
 
 -- where the same stands, the same stands later
-pub same_later : (a b m : ℕ) (d e : Entries) → a ≤ m → b ≤ m → standing_at a d ≡ standing_at b e → standing_at m d ≡ standing_at m e
+pub same_later : (a b m : ℕ) (d e : ServedEntries) → a ≤ m → b ≤ m → standing_at a d ≡ standing_at b e → standing_at m d ≡ standing_at m e
 same_later a b m d e before after same = sym (standing_later a m d before) ∙ ap (standing_at m) same ∙ standing_later b m e after

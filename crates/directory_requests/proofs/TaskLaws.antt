@@ -20,8 +20,8 @@ use Rattle.directory_requests.specs.declared.act.DirectoryAct.TheVariants as act
 use Rattle.directory_requests.specs.declared.judging.DirectoryTask.{DirectoryTask}
 use Rattle.directory_requests.specs.declared.judging.DirectoryTask.TheVariants as task
 use Rattle.directory_requests.specs.Asked.{is_of_directory, act_of, act_asked, id_in, no_flags}
-use Rattle.directory_requests.specs.declared.server.Entries.{Entries}
-use Rattle.directory_requests.specs.declared.server.Entries.TheVariants as kept
+use Rattle.directory_requests.specs.declared.server.ServedEntries.{ServedEntries}
+use Rattle.directory_requests.specs.declared.server.ServedEntries.TheVariants as kept
 use Rattle.directory_requests.specs.Judged.{IsTask, IsJudged, IsOrMemory, IsRefusedOrMemory, act_of_task, DoesTask, DoesTaskAt}
 use Rattle.directory_requests.specs.Window.{window_of}
 use Rattle.wot_json.specs.Lookup.{member_named}
@@ -105,20 +105,20 @@ does_timed : (q : RequestSeen) (t : DirectoryTask) (now : ℕ) (o : Outcome) (r 
 does_timed q t now o r s j (inl done) = performs (act_of_task t) (asked_act q t j) j.unrefused (s, done, refl)
 does_timed q t now o r s j (inr memory) = is_out_of_memory memory.0 (ap (λ (x : Registered). kept.Timed x) memory.1)
 
-pub acts_untimed : (q : RequestSeen) (t : DirectoryTask) (now : ℕ) (o : Outcome) (d e : Contents) (old new : Entries) → old ≡ kept.Untimed d → new ≡ kept.Untimed e → IsJudged q t → DoesTask t q o d e
+pub acts_untimed : (q : RequestSeen) (t : DirectoryTask) (now : ℕ) (o : Outcome) (d e : Contents) (old new : ServedEntries) → old ≡ kept.Untimed d → new ≡ kept.Untimed e → IsJudged q t → DoesTask t q o d e
     → ActsOnStanding q now o (standing_at now old) new
 acts_untimed q t now o d e old new was is j done =
-    subst (λ (x : Entries). ActsOnStanding q now o (standing_at now x) new) (sym was)
-    (subst (λ (x : Entries). ActsOnStanding q now o (kept.Untimed d) x) (sym is) (does_untimed q t now o d e j done))
+    subst (λ (x : ServedEntries). ActsOnStanding q now o (standing_at now x) new) (sym was)
+    (subst (λ (x : ServedEntries). ActsOnStanding q now o (kept.Untimed d) x) (sym is) (does_untimed q t now o d e j done))
 
-pub acts_timed : (q : RequestSeen) (t : DirectoryTask) (now : ℕ) (o : Outcome) (r s : Registered) (old new : Entries) → old ≡ kept.Timed r → new ≡ kept.Timed s → IsJudged q t → DoesTaskAt t q now o (standing now r) s
+pub acts_timed : (q : RequestSeen) (t : DirectoryTask) (now : ℕ) (o : Outcome) (r s : Registered) (old new : ServedEntries) → old ≡ kept.Timed r → new ≡ kept.Timed s → IsJudged q t → DoesTaskAt t q now o (standing now r) s
     → ActsOnStanding q now o (standing_at now old) new
 acts_timed q t now o r s old new was is j done =
-    subst (λ (x : Entries). ActsOnStanding q now o (standing_at now x) new) (sym was)
-    (subst (λ (x : Entries). ActsOnStanding q now o (kept.Timed (standing now r)) x) (sym is) (does_timed q t now o (standing now r) s j done))
+    subst (λ (x : ServedEntries). ActsOnStanding q now o (standing_at now x) new) (sym was)
+    (subst (λ (x : ServedEntries). ActsOnStanding q now o (kept.Timed (standing now r)) x) (sym is) (does_timed q t now o (standing now r) s j done))
 
 -- a request that is refused
-pub refused : (q : RequestSeen) (now : ℕ) (o : Outcome) (d t : Entries) → IsRefusedOrMemory q o → t ≡ d → ActsOnStanding q now o d t
+pub refused : (q : RequestSeen) (now : ℕ) (o : Outcome) (d t : ServedEntries) → IsRefusedOrMemory q o → t ≡ d → ActsOnStanding q now o d t
 refused q now o d t (inl memory) left = is_out_of_memory memory left
 refused q now o d t (inr is) left = refuses is left
 

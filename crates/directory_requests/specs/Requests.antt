@@ -16,8 +16,8 @@ use Rattle.wot_directory.specs.declared.fault.DirFault.TheVariants as fault
 use Rattle.wot_registry.specs.Registry.{Registered, empty_registry, standing, PutsAt, IsPutFault, CreatesAt, IsCreateFault, PatchesAt, IsPatchFault, RemovesAt, IsRemoveFault, shown_under, shown_entries}
 use Rattle.wot_registry.specs.declared.fault.RegFault.{RegFault}
 use Rattle.wot_registry.specs.declared.fault.RegFault.TheVariants as reg_fault
-use Rattle.directory_requests.specs.declared.server.Entries.{Entries}
-use Rattle.directory_requests.specs.declared.server.Entries.TheVariants as kept
+use Rattle.directory_requests.specs.declared.server.ServedEntries.{ServedEntries}
+use Rattle.directory_requests.specs.declared.server.ServedEntries.TheVariants as kept
 use Rattle.directory_requests.specs.declared.act.DirectoryAct.{DirectoryAct}
 use Rattle.directory_requests.specs.declared.act.DirectoryAct.TheVariants as act
 use Rattle.directory_requests.specs.Asked.{act_asked, id_in, IsRefused, IsUnrefused}
@@ -130,22 +130,22 @@ PerformsAt act.Removes q now o r s = RemovesEntryAt (id_in q.path) o r s
 -- ---- requests
 
 -- no entries, which have times where it is known when the clock began
-abbrev pub no_entries : Option ℕ → Entries
+abbrev pub no_entries : Option ℕ → ServedEntries
 no_entries None = kept.Untimed empty_directory
 no_entries (Some epoch) = kept.Timed (empty_registry epoch)
 
 -- the entries that stand at a moment: all but those whose time to live has passed
-abbrev pub standing_at : ℕ → Entries → Entries
+abbrev pub standing_at : ℕ → ServedEntries → ServedEntries
 standing_at now (kept.Untimed d) = kept.Untimed d
 standing_at now (kept.Timed r) = kept.Timed (standing now r)
 
 -- an act is done
-abbrev pub PerformsOn : DirectoryAct → RequestSeen → ℕ → Outcome → Entries → Entries → Type 0
+abbrev pub PerformsOn : DirectoryAct → RequestSeen → ℕ → Outcome → ServedEntries → ServedEntries → Type 0
 PerformsOn a q now o (kept.Untimed d) t = (e : Contents) × Performs a q o d e × (t ≡ kept.Untimed e)
 PerformsOn a q now o (kept.Timed r) t = (s : Registered) × PerformsAt a q now o r s × (t ≡ kept.Timed s)
 
 -- A request to the directory at a moment, what stands then, and its outcome.
-pub data ActsOnStanding (q : RequestSeen) (now : ℕ) (o : Outcome) (d t : Entries) : Type 0 where
+pub data ActsOnStanding (q : RequestSeen) (now : ℕ) (o : Outcome) (d t : ServedEntries) : Type 0 where
   -- the first refusal that holds decides, and nothing changes
   refuses : IsRefused q o → t ≡ d → ActsOnStanding q now o d t
   -- it may be out of memory, and nothing changes
@@ -154,5 +154,5 @@ pub data ActsOnStanding (q : RequestSeen) (now : ℕ) (o : Outcome) (d t : Entri
   performs : (a : DirectoryAct) → act_asked q ≡ Some a → IsUnrefused q → PerformsOn a q now o d t → ActsOnStanding q now o d t
 
 -- The same where what is over isn't taken away yet: it goes first.
-abbrev pub DirectoryActs : RequestSeen → ℕ → Outcome → Entries → Entries → Type 0
+abbrev pub DirectoryActs : RequestSeen → ℕ → Outcome → ServedEntries → ServedEntries → Type 0
 DirectoryActs q now o d t = ActsOnStanding q now o (standing_at now d) t

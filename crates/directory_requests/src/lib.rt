@@ -29,4 +29,4 @@ mod server;
 mod window;
 
 pub use act::{DirectoryAct, is_of_directory};
-pub use server::{DirectoryServer, Entries};
+pub use server::{DirectoryServer, ServedEntries};

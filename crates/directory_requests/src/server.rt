@@ -16,9 +16,9 @@ use thing_ops::{Outcome, Request};
 use wot_directory::Directory;
 use wot_registry::Registry;
 
-/// The entries of a directory.
+/// The entries of a directory, with or without times.
 #[derive(Drop)]
-pub enum Entries {
+pub enum ServedEntries {
     /// Descriptions alone, since nobody says when the clock began.
     Untimed(Directory),
     /// Descriptions with registration information, which tells dates.
@@ -29,16 +29,16 @@ pub enum Entries {
 #[derive(Drop)]
 pub struct DirectoryServer {
     alloc: Global,
-    entries: Entries,
+    entries: ServedEntries,
 }
 
 impl Model for DirectoryServer {
     ghost use Rattle.std.specs.Coded.{codes};
     ghost use Rattle.wot_directory.specs.Contents.{contents_code};
     ghost use Rattle.wot_registry.specs.Registry.{registered_code};
-    ghost use Rattle.directory_requests.specs.declared.server.Entries.{Entries};
+    ghost use Rattle.directory_requests.specs.declared.server.ServedEntries.{ServedEntries};
 
-    ghost Value = { Entries };
+    ghost Value = { ServedEntries };
 
     ghost coded = { Prim.hlevel (codes, contents_code, registered_code) };
 
@@ -54,7 +54,7 @@ impl DirectoryServer {
     {
         DirectoryServer {
             alloc,
-            entries: Entries::new(alloc, epoch),
+            entries: ServedEntries::new(alloc, epoch),
         }
     }
 
@@ -74,15 +74,15 @@ impl DirectoryServer {
     }
 }
 
-impl Entries {
+impl ServedEntries {
     /// No entries.
     fn new(alloc: Global, epoch: Option<u64>) -> Self
         requires { IfSome epoch (λ e. e ≤ last_millisecond) }
         ensures { result ≡ no_entries epoch }
     {
         match epoch {
-            Some(epoch) => Entries::Timed(Registry::new(alloc, epoch)),
-            None => Entries::Untimed(Directory::new(alloc)),
+            Some(epoch) => ServedEntries::Timed(Registry::new(alloc, epoch)),
+            None => ServedEntries::Untimed(Directory::new(alloc)),
         }
     }
 
@@ -91,8 +91,8 @@ impl Entries {
         ensures { self.new ≡ standing_at now self.old }
     {
         match self {
-            Entries::Untimed(_) => {}
-            Entries::Timed(registry) => registry.remove_expired(now),
+            ServedEntries::Untimed(_) => {}
+            ServedEntries::Timed(registry) => registry.remove_expired(now),
         }
     }
 
@@ -109,8 +109,8 @@ impl Entries {
         ensures { ActsOnStanding (request_seen request.now) now result (standing_at now self.old) self.new }
     {
         match self {
-            Entries::Untimed(directory) => perform_task(alloc, directory, task, request),
-            Entries::Timed(registry) => perform_task_at(alloc, registry, task, request, now),
+            ServedEntries::Untimed(directory) => perform_task(alloc, directory, task, request),
+            ServedEntries::Timed(registry) => perform_task_at(alloc, registry, task, request, now),
         }
     }
 }

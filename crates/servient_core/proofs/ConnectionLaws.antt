@@ -15,7 +15,7 @@ use Rattle.thing_core.specs.Thing.{Done, only, has_no_memory}
 use Rattle.thing_core.specs.Kept.{Kept}
 use Rattle.thing_ops.specs.Routes.{route_of}
 use Rattle.directory_requests.specs.Asked.{is_of_directory}
-use Rattle.directory_requests.specs.declared.server.Entries.{Entries}
+use Rattle.directory_requests.specs.declared.server.ServedEntries.{ServedEntries}
 use Rattle.directory_requests.specs.Requests.{standing_at, is_out_of_memory}
 use Rattle.directory_requests.proofs.StandingLaws.{standing_later}
 use Rattle.http_bind.specs.Replying.{fault_word}
@@ -83,7 +83,7 @@ sends_if_any c k n m slots None shows = refines_acts k n m slots [] shows
 sends_if_any c k n m slots (Some reply) shows = refines_acts k n m slots (acts_of_reply c reply) shows
 
 -- a request is taken, done and answered, and what is emitted is delivered
-pub takes_request : (site : Site) (c : ℕ) (q : RequestSeen) (done : Done) (o : Outcome) (k l : Layers) (b d : Slots) (e : Kept) (f : Entries) (n m : NetSeen) (before after : List Seen) (v : Outside)
+pub takes_request : (site : Site) (c : ℕ) (q : RequestSeen) (done : Done) (o : Outcome) (k l : Layers) (b d : Slots) (e : Kept) (f : ServedEntries) (n m : NetSeen) (before after : List Seen) (v : Outside)
     → Leads (Takes c (asks q)) k.http b
     → Refines StandsFor Shows (PerformsByHttp site q done) (record k { http = b }) (record k { http = b; exposed = e; directory = f }) (outside n before) (outside n after)
     → done.outcome ≡ o → SendsAnswer c o k.moment b d n m

@@ -17,7 +17,7 @@ use Rattle.thing_state.specs.State.{State as ThingState, Emission, Invocation}
 use Rattle.thing_state.specs.Places.{place_of}
 use Rattle.thing_core.specs.Thing.{Done, Acts, refuses, has_no_memory, performs}
 use Rattle.thing_core.proofs.DeterminedLaws.{determined}
-use Rattle.directory_requests.specs.declared.server.Entries.{Entries}
+use Rattle.directory_requests.specs.declared.server.ServedEntries.{ServedEntries}
 use Rattle.directory_requests.specs.Asked.{is_of_directory}
 use Rattle.directory_requests.specs.Requests.{DirectoryActs}
 use Rattle.coap_opts.specs.Reading.{AskSeen}
@@ -174,7 +174,7 @@ asks_directory_alone site c q s t seen is (done, both) = either both.one
         (stays_quiet rest.mid t rest.second rest.other) rest.whole in
         let same : on.0 ≡ t.directory = sym (quiet.directory ∙ ap (λ (x : State). x.directory) on.3.next) in (
           done.outcome,
-          subst (λ (d : Entries). DirectoryActs q s.moment done.outcome s.directory d) same on.1,
+          subst (λ (d : ServedEntries). DirectoryActs q s.moment done.outcome s.directory d) same on.1,
           ap calls_in both.whole ∙ filter_map-append call_in both.first both.second ∙ ap₂ (λ (x y : List HandlerCall). x ++ y) (ap calls_in on.3.saw) quiet.calls,
           quiet.thing ∙ ap (λ (x : State). x.thing) on.3.next,
         )

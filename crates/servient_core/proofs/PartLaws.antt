@@ -17,7 +17,7 @@ use Rattle.thing_core.specs.Performing.{MakesAct}
 use Rattle.thing_core.proofs.ThingLaws.{site_stays}
 use Rattle.thing_ops.specs.declared.outcome.Outcome.{Outcome}
 use Rattle.thing_ops.specs.Requests.{RequestSeen}
-use Rattle.directory_requests.specs.declared.server.Entries.{Entries}
+use Rattle.directory_requests.specs.declared.server.ServedEntries.{ServedEntries}
 use Rattle.directory_requests.specs.Requests.{standing_at, ActsOnStanding, DirectoryActs}
 use Rattle.directory_requests.proofs.StandingLaws.{same_later}
 use Rattle.coap_opts.specs.Reading.{AskSeen}
@@ -113,7 +113,7 @@ refines_thing M k e net before after made = λ s stands. (
 )
 
 -- the directory is asked
-refines_directory : (q : RequestSeen) (done : Done) (k : Layers) (d : Entries) (w : Outside) → DirectoryActs q k.moment done.outcome k.directory d → done.emissions ≡ []
+refines_directory : (q : RequestSeen) (done : Done) (k : Layers) (d : ServedEntries) (w : Outside) → DirectoryActs q k.moment done.outcome k.directory d → done.emissions ≡ []
     → Refines StandsFor Shows (PerformsOnDirectory q done) k (record k { directory = d }) w w
 refines_directory q done k d w acts quiet = λ s stands. (
   record s { directory = d },
@@ -123,7 +123,7 @@ refines_directory q done k d w acts quiet = λ s stands. (
     move = (
       d,
       subst (λ (n : ℕ). ActsOnStanding q n done.outcome (standing_at s.moment s.directory) d) (sym stands.moment)
-          (subst (λ (x : Entries). ActsOnStanding q k.moment done.outcome x d) (sym stands.directory) acts),
+          (subst (λ (x : ServedEntries). ActsOnStanding q k.moment done.outcome x d) (sym stands.directory) acts),
       quiet,
       record { next = refl; saw = refl },
     );
@@ -132,7 +132,7 @@ refines_directory q done k d w acts quiet = λ s stands. (
 )
 
 -- a request by HTTP is performed, by the directory or by the Things
-pub refines_by_http : (site : Site) (q : RequestSeen) (o : Outcome) (k : Layers) (e : Kept) (d : Entries) (net : NetSeen) (before after : List Seen)
+pub refines_by_http : (site : Site) (q : RequestSeen) (o : Outcome) (k : Layers) (e : Kept) (d : ServedEntries) (net : NetSeen) (before after : List Seen)
     (made : MakesByHttp k.exposed e k.directory d k.moment q o before after) → k.exposed.site ≡ site
     → Refines StandsFor Shows (PerformsByHttp site q made.done) k (record k { exposed = e; directory = d }) (outside net before) (outside net after)
 refines_by_http site q o k e d net before after made at_site = elim made.move as (λ _. Refines StandsFor Shows (PerformsByHttp site q made.done) k (record k { exposed = e; directory = d }) (outside net before) (outside net after)) [
@@ -140,7 +140,7 @@ refines_by_http site q o k e d net before after made at_site = elim made.move as
       (subst (λ (x : List Seen). Refines StandsFor Shows (PerformsByHttp site q made.done) k (record k { directory = d }) (outside net before) (outside net x)) (sym still)
       (refines_as StandsFor Shows (PerformsOnDirectory q made.done) (PerformsByHttp site q made.done) k (record k { directory = d }) (outside net before) (outside net before)
       (λ s seen t move. inl (is, move)) (refines_directory q made.done k d (outside net before) acts quiet)))
-  | inr (isnt, makes, same) ↦ subst (λ (x : Entries). Refines StandsFor Shows (PerformsByHttp site q made.done) k (record k { exposed = e; directory = x }) (outside net before) (outside net after)) (sym same)
+  | inr (isnt, makes, same) ↦ subst (λ (x : ServedEntries). Refines StandsFor Shows (PerformsByHttp site q made.done) k (record k { exposed = e; directory = x }) (outside net before) (outside net after)) (sym same)
       (refines_as StandsFor Shows (Performs site q made.done) (PerformsByHttp site q made.done) k (record k { exposed = e }) (outside net before) (outside net after)
       (λ s seen t move. inr (isnt, move))
       (refines_thing (Acts site q made.done) k e net before after

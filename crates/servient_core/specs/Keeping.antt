@@ -12,7 +12,7 @@ use Rattle.thing_site.specs.Fits.{Fits}
 use Rattle.thing_core.specs.Kept.{Kept}
 use Rattle.thing_core.specs.Thing.{Done, Acts}
 use Rattle.directory_requests.specs.Asked.{is_of_directory}
-use Rattle.directory_requests.specs.declared.server.Entries.{Entries}
+use Rattle.directory_requests.specs.declared.server.ServedEntries.{ServedEntries}
 use Rattle.directory_requests.specs.Requests.{DirectoryActs}
 use Rattle.thing_core.specs.declared.polling.Round.{Round}
 use Rattle.thing_core.specs.Rounds.{events_left}
@@ -54,7 +54,7 @@ pub record DoesMove (move : Move) (old new : Layers) (before after : Outside) : 
 
 -- The effect of a request by HTTP at a moment: on the directory, of which no handler knows and which emits nothing, or
 -- on the Things; their emissions wait to be handed out.
-pub record MakesByHttp (old new : Kept) (d t : Entries) (now : ℕ) (q : RequestSeen) (o : Outcome) (before after : List Seen) : Type 0 where
+pub record MakesByHttp (old new : Kept) (d t : ServedEntries) (now : ℕ) (q : RequestSeen) (o : Outcome) (before after : List Seen) : Type 0 where
   pub done : Done
   pub outcome : done.outcome ≡ o
   pub pending : new.pending ≡ map (λ e. e.target) done.emissions

@@ -19,7 +19,7 @@ use Rattle.thing_state.specs.Calls.{Move as ThingMove}
 use Rattle.thing_core.specs.Thing.{Done, Acts, PollsEvent}
 use Rattle.thing_state.specs.Places.{target_of}
 use Rattle.directory_requests.specs.Asked.{is_of_directory}
-use Rattle.directory_requests.specs.declared.server.Entries.{Entries}
+use Rattle.directory_requests.specs.declared.server.ServedEntries.{ServedEntries}
 use Rattle.directory_requests.specs.Requests.{no_entries, DirectoryActs}
 use Rattle.coap_observe.specs.declared.notice.Notice.{Notice}
 use Rattle.coap_opts.specs.Reading.{AskSeen}
@@ -52,7 +52,7 @@ pub record State : Type 0 where
   pub http : Streams
   pub coap : Server
   pub thing : ThingState
-  pub directory : Entries
+  pub directory : ServedEntries
 
 -- before the first event, where so many exchanges may live, of a clock that began at this epoch, if that is known
 abbrev pub start : Site → ℕ → Option ℕ → State
@@ -120,7 +120,7 @@ Performs site request done = OnThing (Acts site request done)
 -- one to the directory (WoT Discovery, "Things API", in outline), which calls no handler and emits nothing
 abbrev pub PerformsOnDirectory : RequestSeen → Done → Move
 PerformsOnDirectory request done before seen after =
-    (changed : Entries) × DirectoryActs request before.moment done.outcome before.directory changed × (done.emissions ≡ []) × Becomes (record before { directory = changed }) [] seen after
+    (changed : ServedEntries) × DirectoryActs request before.moment done.outcome before.directory changed × (done.emissions ≡ []) × Becomes (record before { directory = changed }) [] seen after
 
 -- The directory is reached by HTTP alone: by its paths, which lead to no Thing.
 abbrev pub PerformsByHttp : Site → RequestSeen → Done → Move

@@ -11,8 +11,8 @@ use Rattle.thing_core.proofs.DeterminedLaws.{same_verbs}
 use Rattle.wot_directory.specs.Contents.{Contents}
 use Rattle.wot_registry.specs.Registry.{Registered}
 use Rattle.directory_requests.specs.declared.act.DirectoryAct.{DirectoryAct}
-use Rattle.directory_requests.specs.declared.server.Entries.{Entries}
-use Rattle.directory_requests.specs.declared.server.Entries.TheVariants as kept
+use Rattle.directory_requests.specs.declared.server.ServedEntries.{ServedEntries}
+use Rattle.directory_requests.specs.declared.server.ServedEntries.TheVariants as kept
 use Rattle.directory_requests.specs.Asked.{refusals, Stands, IsAnsweredWith}
 use Rattle.directory_requests.specs.Requests.{standing_at, PerformsOn, ActsOnStanding, refuses, is_out_of_memory, performs, DirectoryActs}
 use Rattle.servient_laws.proofs.AlikeDirectories.{Same, HadMemory, performed_once}
@@ -40,7 +40,7 @@ one_refusal q (r ∷ rs) o p (inr a) (inr b) = one_refusal q rs o p a.1 b.1
 
 -- ---- acts
 
-on_entries_once : (a : DirectoryAct) (q : RequestSeen) (now : ℕ) (o p : Outcome) (d t u : Entries) → HadMemory o → HadMemory p
+on_entries_once : (a : DirectoryAct) (q : RequestSeen) (now : ℕ) (o p : Outcome) (d t u : ServedEntries) → HadMemory o → HadMemory p
     → PerformsOn a q now o d t → PerformsOn a q now p d u → Same o p t u
 on_entries_once a q now o p (kept.Untimed d) t u on_o on_p (e, done, is) (f, other, is') =
     let same = performed_once a q o p d e f on_o on_p done other in
@@ -51,7 +51,7 @@ on_entries_once a q now o p (kept.Timed r) t u on_o on_p (e, done, is) (f, other
 
 -- ---- requests
 
-acts_once : (q : RequestSeen) (now : ℕ) (o p : Outcome) (d t u : Entries) → o ≢ outcome.Memory → p ≢ outcome.Memory
+acts_once : (q : RequestSeen) (now : ℕ) (o p : Outcome) (d t u : ServedEntries) → o ≢ outcome.Memory → p ≢ outcome.Memory
     → ActsOnStanding q now o d t → ActsOnStanding q now p d u → (o ≡ p) × (t ≡ u)
 acts_once q now o p d t u on_o on_p (is_out_of_memory is after) other = absurd (on_o is)
 acts_once q now o p d t u on_o on_p one (is_out_of_memory is after) = absurd (on_p is)
@@ -62,6 +62,6 @@ acts_once q now o p d t u on_o on_p (performs x asked none a) (performs y asked'
     let same = on_entries_once x q now o p d t u on_o on_p a (subst (λ (z : DirectoryAct). PerformsOn z q now p d u) (same_Some y x (sym asked' ∙ asked)) b) in
     (same.outcome, same.contents)
 
-pub directory_determined : (q : RequestSeen) (now : ℕ) (o p : Outcome) (d t u : Entries) → o ≢ outcome.Memory → p ≢ outcome.Memory
+pub directory_determined : (q : RequestSeen) (now : ℕ) (o p : Outcome) (d t u : ServedEntries) → o ≢ outcome.Memory → p ≢ outcome.Memory
     → DirectoryActs q now o d t → DirectoryActs q now p d u → (o ≡ p) × (t ≡ u)
 directory_determined q now o p d t u on_o on_p a b = acts_once q now o p (standing_at now d) t u on_o on_p a b

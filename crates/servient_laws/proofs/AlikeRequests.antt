@@ -16,7 +16,7 @@ use Rattle.thing_core.specs.Thing.{Done, Acts, emission, IsPolled, PollsEvent}
 use Rattle.thing_state.specs.Calls.{Called, no_number, no_memory, gives, Calls, IsTaken}
 use Rattle.thing_core.specs.Determined.{AreAnsweredBy, HadMemory as WasAmple}
 use Rattle.thing_core.proofs.DeterminedLaws.{determined, answered_first, one_decision}
-use Rattle.directory_requests.specs.declared.server.Entries.{Entries}
+use Rattle.directory_requests.specs.declared.server.ServedEntries.{ServedEntries}
 use Rattle.directory_requests.specs.Asked.{is_of_directory}
 use Rattle.directory_requests.specs.Requests.{DirectoryActs}
 use Rattle.servient_trace.specs.Trace.{Sighting, at_handler, calls_in}
@@ -68,7 +68,7 @@ by_directory : (q : RequestSeen) (x y : Done) (s t u v : State) (a b : List Sigh
     → PerformsOnDirectory q x s a u → PerformsOnDirectory q y t b v → WasAmple x → WasAmple y → (x ≡ y) × Agree a b u v
 by_directory q x y s t u v a b alike (d, p, none, at) (e, r, none', at') on_x on_y =
     let same = directory_determined q s.moment x.outcome y.outcome s.directory d e on_x on_y p
-    (subst (λ (n : ℕ). DirectoryActs q n y.outcome s.directory e) (sym alike.moment) (subst (λ (z : Entries). DirectoryActs q t.moment y.outcome z e) (sym alike.directory) r)) in
+    (subst (λ (n : ℕ). DirectoryActs q n y.outcome s.directory e) (sym alike.moment) (subst (λ (z : ServedEntries). DirectoryActs q t.moment y.outcome z e) (sym alike.directory) r)) in
     (same_done x y same.0 (none ∙ sym none'), becomes_agree (record s { directory = d }) (record t { directory = e }) u v [] [] a b (directory_changed s t d e alike same.1) refl at at')
 
 never : (b : Bool) → b ≡ true → b ≡ false → ⊥

@@ -8,7 +8,7 @@ use Rattle.thing_handler.specs.Turns.{HandlerCall}
 use Rattle.thing_state.specs.State.{State as ThingState}
 use Rattle.thing_core.specs.Determined.{AreAnsweredBy}
 use Rattle.thing_core.proofs.DeterminedLaws.{answered_first, answered_rest}
-use Rattle.directory_requests.specs.declared.server.Entries.{Entries}
+use Rattle.directory_requests.specs.declared.server.ServedEntries.{ServedEntries}
 use Rattle.coap_exchange.specs.Table.{Exchange, Table}
 use Rattle.coap_bind.specs.declared.server.Server.{Server}
 use Rattle.http_bind.specs.Streams.{Streams}
@@ -71,7 +71,7 @@ coap_changed s t c d e same = record { moment = e.moment; http = e.http; coap = 
 pub thing_changed : (s t : State) (x y : ThingState) → Alike s t → x ≡ y → Alike (record s { thing = x }) (record t { thing = y })
 thing_changed s t x y e same = record { moment = e.moment; http = e.http; coap = e.coap; thing = same; directory = e.directory }
 
-pub directory_changed : (s t : State) (d f : Entries) → Alike s t → d ≡ f → Alike (record s { directory = d }) (record t { directory = f })
+pub directory_changed : (s t : State) (d f : ServedEntries) → Alike s t → d ≡ f → Alike (record s { directory = d }) (record t { directory = f })
 directory_changed s t d f e same = record { moment = e.moment; http = e.http; coap = e.coap; thing = e.thing; directory = same }
 
 -- ---- parts of a trace

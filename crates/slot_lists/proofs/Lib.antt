@@ -1,3 +1,4 @@
 pub mod Among
 pub mod Linking
 pub mod Neighbours
+pub mod Counts

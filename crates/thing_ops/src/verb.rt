@@ -19,7 +19,7 @@ pub enum Verb {
 
 impl Verb {
     /// The name of the method in HTTP; nothing for another method.
-    pub(crate) fn name(self) -> &'static str
+    pub fn name(self) -> &'static str
         ensures text { result.now ≡ verb_name self }
         ensures short { length result.now ≤ 6 }
     {

@@ -64,25 +64,10 @@ fn push_request_line(text: &mut String, verb: Verb, path: &Segments) -> Result<(
     ensures { OnOk result (string_bytes text.new ≡ string_bytes text.old
         ++ (verb_name verb ++ codes " " ++ message.path_text path.now ++ codes " HTTP/1.1" ++ line_end)) }
 {
-    text.push_str(method_of(verb))?;
+    text.push_str(verb.name())?;
     text.push_str(" ")?;
     push_path(text, path)?;
     text.push_str(" HTTP/1.1\r\n")
-}
-
-/// The name of a method; nothing for another method than those of the type's own names.
-fn method_of(verb: Verb) -> &'static str
-    ensures { result.now ≡ verb_name verb }
-{
-    match verb {
-        Verb::Get => "GET",
-        Verb::Head => "HEAD",
-        Verb::Put => "PUT",
-        Verb::Post => "POST",
-        Verb::Patch => "PATCH",
-        Verb::Delete => "DELETE",
-        Verb::Other => "",
-    }
 }
 
 /// Puts a path at the end, as a request target has it.

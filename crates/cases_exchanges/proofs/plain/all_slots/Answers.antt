@@ -1,7 +1,7 @@
 -- One more slot is free each time.
 use Rattle.std.proofs.Common.{◌≡◌, arith, subst}
 use Rattle.cases_exchanges.specs.Plain.{times_free}
-use Rattle.coap_exchange.specs.Slots.{once_below}
+use Rattle.slot_lists.specs.Counts.{once_below}
 use Rattle.cases_exchanges.proofs.PlainSlots.{slots_more}
 use Rattle.cases_exchanges.proofs.plain.all_slots.Goals as goal
 

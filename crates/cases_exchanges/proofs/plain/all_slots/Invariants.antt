@@ -1,7 +1,7 @@
 -- so far the slots below `slot` are free, and the room stays
 use Rattle.std.proofs.Common.{◌≡◌, ◌≤◌, ℕ, length, vec_capacity}
 use Rattle.cases_exchanges.specs.Plain.{times_free}
-use Rattle.coap_exchange.specs.Slots.{once_below}
+use Rattle.slot_lists.specs.Counts.{once_below}
 use Rattle.cases_exchanges.proofs.plain.all_slots.Given as goal
 
 abbrev pub invariant-loop-slot : goal.invariant-loop-slot

@@ -3,8 +3,8 @@ use Rattle.std.proofs.Common.{◌≡◌, ◌≢◌, ◌≤◌, ◌<◌, ◌+◌,
 use Rattle.std.proofs.lemmas.List.{get_or-set_same, get_or-set_other, length-set}
 use Rattle.std.proofs.lemmas.Bool.Decides.{eqb_tells}
 use Rattle.slot_lists.specs.Lists.{Lists, list_at, empty_lists, is_among}
-use Rattle.coap_exchange.specs.Slots.{once_below, times_in}
-use Rattle.coap_exchange.proofs.SlotLaws.{slots_more, not_below, uncounted_is_absent}
+use Rattle.slot_lists.specs.Counts.{once_below, times_in}
+use Rattle.slot_lists.proofs.Counts.{slots_more, not_below, uncounted_is_absent}
 use Rattle.coap_exchange.proofs.slots.all_free.Goals as goal
 
 empty_at : (i : ℕ) → 1 ≤ i → list_at i (empty_lists 0 3) ≡ []

@@ -3,7 +3,7 @@ use Rattle.std.proofs.Common.{◌≡◌, ◌<◌, ◌∷◌, ◌∙◌, true, fa
 use Rattle.slot_lists.specs.Lists.{list_at, from_slot, IsIn}
 use Rattle.slot_lists.proofs.Neighbours.{from_first}
 use Rattle.coap_exchange.specs.Slots.{entry_at, is_of}
-use Rattle.coap_exchange.proofs.SlotLaws.{found_at_slot, found_further}
+use Rattle.slot_lists.proofs.Counts.{found_at_slot, found_further}
 use Rattle.coap_exchange.proofs.slots.slot_of.Goals as goal
 
 pub loop-current-init : goal.loop-current-init

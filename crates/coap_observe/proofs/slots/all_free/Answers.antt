@@ -2,8 +2,9 @@
 use Rattle.std.proofs.Common.{◌≡◌, ◌<◌, ◌+◌, ◌==◌, ◌++◌, ◌∷◌, [], ◌∙◌, length, length-append, cond, sym, ap, subst, arith}
 use Rattle.std.proofs.lemmas.List.{get_or-set_same, get_or-set_other, length-set}
 use Rattle.slot_lists.specs.Lists.{Lists, list_at}
-use Rattle.coap_observe.specs.Kept.{once_below, times_in}
-use Rattle.coap_observe.proofs.SlotLaws.{not_below, once_more, times_push, in_none}
+use Rattle.slot_lists.specs.Counts.{once_below, times_in}
+use Rattle.coap_observe.proofs.SlotLaws.{in_none}
+use Rattle.slot_lists.proofs.Counts.{not_below, once_more, times_push}
 use Rattle.coap_observe.proofs.KeptLaws.{either_list}
 use Rattle.coap_observe.proofs.slots.all_free.Goals as goal
 

@@ -1,7 +1,7 @@
 -- so far the slots below `slot` are free
 use Rattle.std.proofs.Common.{◌≡◌, ℕ, [], length}
 use Rattle.slot_lists.specs.Lists.{list_at}
-use Rattle.coap_observe.specs.Kept.{once_below, times_in}
+use Rattle.slot_lists.specs.Counts.{once_below, times_in}
 use Rattle.coap_observe.proofs.slots.all_free.Given as goal
 
 abbrev pub invariant-loop-slot : goal.invariant-loop-slot

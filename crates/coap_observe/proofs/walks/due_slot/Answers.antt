@@ -4,7 +4,7 @@ use Rattle.slot_lists.specs.Lists.{list_at, from_slot, IsIn}
 use Rattle.slot_lists.proofs.Neighbours.{from_first}
 use Rattle.coap_observe.specs.Kept.{observer_at}
 use Rattle.coap_observe.specs.Watching.{is_due}
-use Rattle.coap_observe.proofs.SlotLaws.{found_at_slot, found_further}
+use Rattle.slot_lists.proofs.Counts.{found_at_slot, found_further}
 use Rattle.coap_observe.proofs.WalkLaws.{read_observer}
 use Rattle.coap_observe.proofs.walks.due_slot.Goals as goal
 

@@ -3,7 +3,7 @@ use Rattle.std.proofs.Common.{◌≡◌, ◌<◌, ◌∷◌, ◌∙◌, true, fa
 use Rattle.slot_lists.specs.Lists.{list_at, from_slot, IsIn}
 use Rattle.slot_lists.proofs.Neighbours.{from_first}
 use Rattle.coap_observe.specs.Kept.{observer_at, is_sendable_at}
-use Rattle.coap_observe.proofs.SlotLaws.{found_at_slot, found_further}
+use Rattle.slot_lists.proofs.Counts.{found_at_slot, found_further}
 use Rattle.coap_observe.proofs.walks.sendable_slot.Goals as goal
 
 pub loop-current-init : goal.loop-current-init

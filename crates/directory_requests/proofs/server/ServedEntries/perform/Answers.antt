@@ -1,7 +1,7 @@
 use Rattle.std.proofs.Common.{refl}
 use Rattle.thing_ops.specs.Requests.{request_seen}
 use Rattle.directory_requests.proofs.TaskLaws.{acts_untimed, acts_timed}
-use Rattle.directory_requests.proofs.server.Entries.perform.Goals as goal
+use Rattle.directory_requests.proofs.server.ServedEntries.perform.Goals as goal
 
 pub returns-in-Untimed : goal.returns-in-Untimed
 returns-in-Untimed c =

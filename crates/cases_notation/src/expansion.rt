@@ -14,7 +14,7 @@ fn put_number(whole: &mut String, number: usize, width: usize) -> Result<(), All
 }
 
 /// Writes a text in which a row of this mark stands for a number.
-pub fn put_numbered(
+fn put_numbered(
     whole: &mut String,
     text: &str,
     mark: char,
@@ -80,4 +80,18 @@ pub fn numbered(
     let mut whole = String::new(alloc);
     put_numbered(&mut whole, text, mark, number)?;
     Ok(whole)
+}
+
+/// Writes what came: as it was to come, if that means the same with its repeats written out.
+pub fn put_came(
+    text: &mut String,
+    alloc: Global,
+    wanted: &str,
+    said: &str,
+) -> Result<(), AllocError> {
+    if wanted.contains("repeat(") {
+        let whole = expanded(alloc, wanted)?;
+        return text.push_str(if whole.as_str() == said { wanted } else { said });
+    }
+    text.push_str(said)
 }

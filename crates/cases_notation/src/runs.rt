@@ -1,6 +1,6 @@
 //! Bytes in which one that comes many times in a row is written once, with the number of times: `x\*300;`.
 
-use cases_notation::put as put_bytes;
+use crate::bytes::put as put_bytes;
 use std::alloc::AllocError;
 use std::fmt::Write;
 
@@ -27,7 +27,7 @@ fn put_run(text: &mut String, run: Run) -> Result<(), AllocError> {
 }
 
 /// Writes the runs of bytes, nothing where there are none.
-pub fn put_plain(text: &mut String, bytes: &[u8]) -> Result<(), AllocError> {
+pub fn put_plain_runs(text: &mut String, bytes: &[u8]) -> Result<(), AllocError> {
     let mut run = Run { byte: 0, times: 0 };
     for byte in bytes {
         if *byte != run.byte {
@@ -43,9 +43,9 @@ pub fn put_plain(text: &mut String, bytes: &[u8]) -> Result<(), AllocError> {
 }
 
 /// The same, `-` where there are none.
-pub fn put(text: &mut String, bytes: &[u8]) -> Result<(), AllocError> {
+pub fn put_runs(text: &mut String, bytes: &[u8]) -> Result<(), AllocError> {
     if bytes.is_empty() {
         return text.push_str("-");
     }
-    put_plain(text, bytes)
+    put_plain_runs(text, bytes)
 }

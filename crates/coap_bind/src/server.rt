@@ -1,13 +1,14 @@
 //! The contents of a server, and the treatment of each datagram.
 
-ghost use Rattle.std.specs.Prelude.{◌≡◌, ◌≤◌, length};
+ghost use Rattle.std.specs.Prelude.{◌≡◌, ◌≤◌, ◌&&◌, nat_lt, length};
 ghost use Rattle.coap_msg.specs.Written.{IsWritten};
+ghost use Rattle.coap_bind.specs.Server.{may_ask};
 
 use crate::writing::kind_and_id;
 use coap_blocks::{Bodies, Parts};
 use coap_exchange::{ExchangeSlot, Exchanges, Met};
 use coap_msg::{
-    DETAILS, EMPTY, Endpoint, LONGEST_MESSAGE, LONGEST_TOKEN, Message, Opts, Plain,
+    Code, DETAILS, EMPTY, Endpoint, LONGEST_MESSAGE, LONGEST_TOKEN, Message, Opts, Plain,
     RequestType, SERVICE_UNAVAILABLE, Type4, decode, encode, put_empty_reply, put_rejection,
 };
 use coap_observe::Watchers;
@@ -58,8 +59,7 @@ impl Server {
             // The first byte says whether there is a Reset, because a fault comes before anything else is known.
             Err(_fault) => return Err(put_rejection(bytes, out)),
         };
-        let may_ask = matches!(message.kind, Type4::Con | Type4::Non);
-        if !(may_ask && message.code > EMPTY && message.code < DETAILS) {
+        if !is_request(message.kind, message.code) {
             self.report(from, &message);
             return Err(put_empty_reply(message.kind, message.id, false, out));
         }
@@ -143,6 +143,16 @@ impl Server {
             },
             RequestType::NonConfirmable => None,
         }
+    }
+}
+
+/// Whether a message of this type and code is a request.
+fn is_request(kind: Type4, code: Code) -> bool
+    ensures { result ≡ (may_ask kind && (nat_lt 0 code && nat_lt code 32)) }
+{
+    match kind {
+        Type4::Con | Type4::Non => code > EMPTY && code < DETAILS,
+        Type4::Ack | Type4::Rst => false,
     }
 }
 

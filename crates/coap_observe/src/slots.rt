@@ -205,7 +205,8 @@ impl ObserverSlots {
 
 ghost use Rattle.std.specs.Prelude.{◌≡◌, ◌<◌, [], ℕ, true, IfOk, length};
 ghost use Rattle.slot_lists.specs.Lists.{list_at, is_among, IsInNone};
-ghost use Rattle.coap_observe.specs.Kept.{times_in, once_below, pushed_at, without_at};
+ghost use Rattle.slot_lists.specs.Counts.{times_in, once_below};
+ghost use Rattle.coap_observe.specs.Kept.{pushed_at, without_at};
 
 /// A slot goes from one list to the end of another.
 fn move_slot(lists: &mut SlotLists, left: u32, taken: u32, slot: u32)

@@ -7,7 +7,7 @@ ghost use Rattle.wot_terms.specs.Faults.{IsValid};
 ghost use Rattle.thing_site.specs.Site.{expose_faults, site_of, thing_named as thing_of};
 ghost use Rattle.thing_site.specs.Fits.{Fits};
 ghost use Rattle.thing_site.specs.Exposing.{kinds_of, IsFirst};
-ghost use Rattle.thing_site.specs.Index.{segment_order, Indexes};
+ghost use Rattle.thing_site.specs.Index.{segment_at as segment_in, segment_order, Indexes};
 
 use crate::placing::place_all;
 use crate::{ExposeFault, HeldThing, NoMemory, Slots};
@@ -91,14 +91,18 @@ fn search(things: &[HeldThing], index: &[usize], segment: &[u8]) -> Result<usize
 {
     let order = |number: &usize| -> Ordering
         ensures { result ≡ segment_order things.entry.now segment.entry.now number.now }
-    {
-        match things.get(*number) {
-            Some(thing) => thing.segment.as_str().as_bytes().cmp(segment),
-            // Not met, since an index has numbers of Things alone.
-            None => [].as_slice().cmp(segment),
-        }
-    };
+    { segment_at(things, *number).cmp(segment) };
     index.binary_search_by(order)
+}
+
+/// The segment of the Thing of this number.
+fn segment_at(things: &[HeldThing], number: usize) -> &[u8]
+    ensures { result.now ≡ segment_in things.now number }
+{
+    match things.get(number) {
+        Some(thing) => thing.segment.as_str().as_bytes(),
+        None => &[],
+    }
 }
 
 /// The index of these Things.
@@ -118,8 +122,7 @@ fn add_number(index: &mut Vec<usize>, things: &[HeldThing], number: usize) -> Re
     requires index { Indexes things.now index.old.items (take number things.now) }
     ensures { OnOk result (Indexes things.now index.new.items (take (number + 1) things.now)) }
 {
-    let segment = things[number].segment.as_str().as_bytes();
-    match search(things, index.as_slice(), segment) {
+    match search(things, index.as_slice(), segment_at(things, number)) {
         Ok(_) => Ok(()),
         Err(place) => Ok(index.insert(place, number)?),
     }

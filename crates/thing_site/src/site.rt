@@ -4,7 +4,7 @@ ghost use Rattle.std.specs.Prelude.{◌≡◌, length, slice_get};
 ghost use Rattle.thing_site.specs.Site.{is_emitter as is_emitter_of, is_kind as is_kind_of};
 ghost use Rattle.std.specs.Cmp.Lexicographic.{slice_cmp};
 ghost use Rattle.std.specs.Ordering.{nat_cmp};
-ghost use Rattle.thing_site.specs.Order.{key, key_of};
+ghost use Rattle.thing_site.specs.Order.{key, key_of, rank as rank_of};
 ghost use Rattle.thing_site.specs.Exposing.{placed_all};
 
 use std::cmp::Ordering;
@@ -80,10 +80,20 @@ pub(crate) fn spot_at<'a>(
 pub(crate) fn compare(affordance: &Affordance, kind: Kind, name: &[u8]) -> Ordering
     ensures { result ≡ slice_cmp nat_cmp (key_of affordance.now) (key kind name.now) }
 {
-    // Properties are before actions, and these before events.
-    match (affordance.kind as u8).cmp(&(kind as u8)) {
+    match rank(affordance.kind).cmp(&rank(kind)) {
         Ordering::Equal => affordance.name.as_str().as_bytes().cmp(name),
         order => order,
+    }
+}
+
+/// Properties are before actions, and these before events.
+fn rank(kind: Kind) -> u8
+    ensures { result ≡ rank_of kind }
+{
+    match kind {
+        Kind::Property => 0,
+        Kind::Action => 1,
+        Kind::Event => 2,
     }
 }
 

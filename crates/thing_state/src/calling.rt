@@ -30,7 +30,7 @@ pub fn call<R: Handlers>(
         return Err(Outcome::CallsUsed);
     }
     let answer = rack.call(slot as usize, number, what)?;
-    machine.count_turn();
+    machine.turns += 1;
     Ok(answer)
 }
 

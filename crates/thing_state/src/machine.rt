@@ -3,8 +3,7 @@
 //! All that changes is one type with a Model: each of its calls is an equation on the state, and the acts above it see
 //! no vector, no room and no capacity.
 
-ghost use Rattle.std.specs.Prelude.{◌≡◌, ◌≤◌, ◌<◌, ◌+◌, length, map, option_map, not, position, remove, vec_len, vec_capacity, IfOk};
-ghost use Rattle.thing_site.specs.Refusals.{longest_value};
+ghost use Rattle.std.specs.Prelude.{◌≡◌, ◌≤◌, ◌<◌, ◌+◌, length, option_map, not, position, remove, vec_len, vec_capacity, IfOk};
 ghost use Rattle.thing_state.specs.State as spec;
 ghost use Rattle.thing_state.specs.Course.{FitsValue};
 ghost use Rattle.thing_state.specs.Ids.{IdsRise};
@@ -139,15 +138,6 @@ impl Machine {
         self.last.len()
     }
 
-    /// A handler answered, which is a turn. It hasn't brought a new version about yet.
-    pub fn count_turn(&mut self)
-        requires { self.old.state.turns < most_turns }
-        ensures counted { self.new ≡ record self.old { state = record self.old.state { turns = self.old.state.turns + 1 } } }
-        ensures room { HasRoom self.new.state }
-    {
-        self.turns += 1;
-    }
-
     /// The version of the property in this slot.
     pub fn version_of(&self, slot: Slot) -> u32
         ensures { result ≡ spec.version_of slot self.now.state.versions }
@@ -191,7 +181,9 @@ impl Machine {
         ensures pending { self.new.pending ≡ self.old.pending ++ target ∷ [] }
         ensures room { self.new.room + 1 ≡ self.old.room }
     {
-        renew_all(self.last.as_mut_slice(), target, text);
+        for latest in self.last.iter_mut() {
+            latest.renew(target, text);
+        }
         self.pending.push_back_reserved(target);
     }
 
@@ -259,16 +251,6 @@ fn empty_rooms(alloc: Global) -> Result<Vec<TextRoom>, NoMemory>
         rooms.push(TextRoom::new(alloc)?)?;
     }
     Ok(rooms)
-}
-
-/// Each of these whose affordance is in this slot emits this text.
-fn renew_all(last: &mut [LastValue], target: Target, text: &[u8])
-    requires { length text.now ≤ longest_value }
-    ensures { last.new ≡ map (spec.renewed (record { target = target; text = text.now })) last.old }
-{
-    for latest in last {
-        latest.renew(target, text);
-    }
 }
 
 /// The first that is completed goes, and gives its room back.

@@ -1,6 +1,6 @@
 use Rattle.std.proofs.Common.{◌≡◌, ◌++◌, take, drop, map}
 use Rattle.thing_state.specs.State.{renewed}
-use Rattle.thing_state.proofs.machine.renew_all.Given as goal
+use Rattle.thing_state.proofs.machine.Machine.emit.Given as goal
 
 abbrev pub invariant-loop-latest : goal.invariant-loop-latest
 invariant-loop-latest l =

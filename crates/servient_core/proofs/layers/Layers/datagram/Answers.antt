@@ -5,7 +5,7 @@ use Rattle.coap_bind.specs.Server.{Answers}
 use Rattle.coap_bind.proofs.LengthLaws.{replies_fit}
 use Rattle.servient_outside.specs.declared.net.Act.TheVariants as act
 use Rattle.servient_outside.specs.Network.{NetShows, did}
-use Rattle.servient_core.specs.Trace.{outside}
+use Rattle.servient_trace.specs.Trace.{outside}
 use Rattle.servient_core.proofs.PartLaws.{receives_long, heard_nothing, heard_at_once, heard_asked}
 use Rattle.servient_core.proofs.DeliverLaws.{ready_after}
 use Rattle.servient_core.proofs.PathLaws.{asked_short}

@@ -31,6 +31,7 @@ use Rattle.command_stages.specs.declared.ending.Ended.{Ended}
 use Rattle.command_stages.specs.Lines.{memory_line, network_line, no_affordance_line, no_form_line, silent_line, spent_line}
 use Rattle.command_stages.specs.Stages.{Deed, did_see, did_write, text_in, Outcome, goes_on, ends, EndsWith, RunsOut, AndThen, Around, ShowsDeeds}
 use Rattle.command_stages.specs.Ending.{final_status, final_text}
+use Rattle.command_stages.specs.Describing.{ReadsDescription, ReadsInput}
 
 -- ---- the form
 

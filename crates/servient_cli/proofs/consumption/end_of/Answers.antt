@@ -6,4 +6,4 @@ use Rattle.servient_cli.proofs.consumption.end_of.Goals as goal
 
 pub returns-in-Other : goal.returns-in-Other
 returns-in-Other c =
-    subst (λ (r : Consumed). IsEndOf r (Err c.end_with.result)) (sym c.in-Other.is) (outcome_ends _ c.outcome.result c.end_with.result c.outcome.ensures c.end_with.ensures)
+    subst (λ (r : Consumed). IsEndOf r (Err c.end_with.result)) (sym c.in-Other.is) (outcome_ends _ c.undone.result c.end_with.result c.undone.ensures c.end_with.ensures)

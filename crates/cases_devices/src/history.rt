@@ -2,8 +2,10 @@
 
 use crate::readings::Readings;
 use cases_notation::{bytes_of, put_given, put_words};
-use file_devices::{DeviceEntry, DeviceFilesMemory, Notation, SlotHandler, file_handler};
-use servient_outside::{Calls, Held, HeldFile};
+use file_devices::{
+    DeviceEntry, DeviceFilesMemory, FileCall, Notation, SlotHandler, Wrote, file_handler,
+};
+use servient_outside::{Calls, Got, Held, HeldFile};
 use std::alloc::{AllocError, Global};
 use std::fmt::Write;
 use std::str;
@@ -21,11 +23,12 @@ struct Before {
     contents: Vec<Bytes>,
 }
 
-/// A device and the number of its next turn.
+/// A device, the number of its next turn, and the number of calls of files that were written already.
 #[derive(Drop)]
 struct Device {
     handler: SlotHandler<Readings>,
     turn: u64,
+    told: usize,
 }
 
 /// A content, in which `\n` is a line end.
@@ -89,12 +92,16 @@ fn device_of(alloc: Global, before: Before, kind: Kind, rest: &str) -> Result<De
         contents,
     } = before;
     let files = Readings {
-        files: DeviceFilesMemory::new(files, fails),
+        files: DeviceFilesMemory::new(alloc, files, fails),
         contents,
         made: 0,
     };
     let handler = file_handler(alloc, files, &entry)?;
-    Ok(Device { handler, turn: 0 })
+    Ok(Device {
+        handler,
+        turn: 0,
+        told: 0,
+    })
 }
 
 /// The value of a JSON text.
@@ -158,6 +165,72 @@ fn put_content(text: &mut String, device: &Device, name: &str) -> Result<(), All
     text.push_str("no file")
 }
 
+/// The word of a read's answer.
+fn got_word(got: Got) -> &'static str {
+    match got {
+        Got::Whole => "whole",
+        Got::Absent => "absent",
+        Got::TooLong => "too long",
+        Got::Failed => "failed",
+        Got::NoMemory => "no memory",
+    }
+}
+
+/// The word of a write's answer.
+fn wrote_word(wrote: Wrote) -> &'static str {
+    match wrote {
+        Wrote::Done => "done",
+        Wrote::Absent => "absent",
+        Wrote::Failed => "failed",
+    }
+}
+
+/// Writes a call of files: `read NAME whole CONTENT`, `read NAME absent`, `write NAME CONTENT done`.
+fn put_call(text: &mut String, call: &FileCall) -> Result<(), AllocError> {
+    match call {
+        FileCall::Read(name, bytes, got) => {
+            write!(text, "read {} {}", name.as_str(), got_word(*got))?;
+            if *got == Got::Whole {
+                let content = str::from_utf8(bytes.as_slice()).unwrap_or("no text");
+                write!(text, " {content}")?;
+            }
+            Ok(())
+        }
+        FileCall::Write(name, bytes, wrote) => {
+            let content = str::from_utf8(bytes.as_slice()).unwrap_or("no text");
+            write!(
+                text,
+                "write {} {content} {}",
+                name.as_str(),
+                wrote_word(*wrote)
+            )
+        }
+    }
+}
+
+/// Writes the calls of files since they were written last, and gives the number of all of them.
+fn put_calls(text: &mut String, device: &Device) -> Result<usize, AllocError> {
+    let Some(files) = device.handler.files() else {
+        text.push_str("no files")?;
+        return Ok(0);
+    };
+    if files.files.lost() > 0 {
+        text.push_str("lost")?;
+        return Ok(0);
+    }
+    let calls = files.files.calls();
+    for (place, call) in calls.iter().enumerate().skip(device.told) {
+        if place > device.told {
+            text.push_str("; ")?;
+        }
+        put_call(text, call)?;
+    }
+    if calls.len() <= device.told {
+        text.push_str("none")?;
+    }
+    Ok(calls.len())
+}
+
 /// Makes a step, and writes what comes of it.
 fn put_step(
     text: &mut String,
@@ -167,6 +240,10 @@ fn put_step(
 ) -> Result<(), AllocError> {
     if let Some(("content", name)) = step.split_once(' ') {
         return put_content(text, device, name);
+    }
+    if step == "calls" {
+        device.told = put_calls(text, device)?;
+        return Ok(());
     }
     let Some(what) = call_of(alloc, step)? else {
         return text.push_str("no such step");

@@ -9,6 +9,7 @@
 //! read, poll, query, cancel  a call, and its answer
 //! write JSON, invoke [JSON]  a call with a value, and its answer
 //! content NAME               what the file holds
+//! calls                      the calls of files since the last such step, but for those that a `reading` gave
 //! ```
 //!
 //! The program prints each step with its real outcome, and each other line as it is, so that it prints its files, if

@@ -1,4 +1,4 @@
-//! Files whose content changes from one read to the next.
+//! Files whose content changes from one read to the next. Such a read isn't listed among the calls.
 
 ghost use Rattle.std.specs.Prelude.{◌≢◌, [], None};
 ghost use Rattle.servient_outside.specs.Files.{AnswersRead};
@@ -37,7 +37,7 @@ impl DeviceFiles for Readings {
     ghost use Rattle.std.specs.Prelude.{None};
     ghost use Rattle.file_devices.specs.InMemory.{seen_of};
 
-    ghost seen = { λ r. record { held = None; faults = (seen_of r.files).faults } };
+    ghost seen = { λ r. record { held = None; calls = None; faults = (seen_of r.files).faults } };
 
     fn read(&mut self, alloc: Global, name: &str, limit: usize, into: &mut Bytes) -> Got {
         match self.contents.get(self.made) {

@@ -1,3 +1,5 @@
 mod Looks
 mod ListRead
 mod Named
+mod CallLists
+mod OnceLaws

@@ -1,19 +1,20 @@
 -- From what the steps of a device give to what its handler answers.
-use Rattle.std.proofs.Common.{◌≡◌, ◌≤◌, ◌<◌, ℕ, List, Option, Some, length, refl, subst, arith}
+use Rattle.std.proofs.Common.{◌≡◌, ◌≢◌, ◌≤◌, ◌<◌, ℕ, List, Option, Some, length, refl, sym, ap, ◌∙◌, subst, arith}
 use Rattle.std.specs.Prelude.{Result, Ok, Err, IfOk}
 use Rattle.std.specs.declared.alloc.AllocError.{AllocError}
 use Rattle.wot_json.specs.Json.{json_text}
 use Rattle.wot_json.specs.declared.tree.Tree.{Tree}
-use Rattle.servient_outside.specs.declared.files.Got.TheVariants.{Whole, Failed}
+use Rattle.servient_outside.specs.declared.files.Got.{Got}
+use Rattle.servient_outside.specs.declared.files.Got.TheVariants.{Whole, Absent, TooLong, Failed}
 use Rattle.thing_handler.specs.declared.handler.Answer.{Answer}
 use Rattle.std.specs.Option.{option_or}
 use Rattle.file_devices.specs.declared.event.Polled.{Polled}
 use Rattle.file_devices.specs.declared.fault.FileFault.{FileFault}
 use Rattle.file_devices.specs.declared.fault.FileFault.TheVariants as fault
 use Rattle.file_devices.specs.declared.notation.Notation.{Notation}
-use Rattle.file_devices.specs.Files.{FilesSeen, Reads}
+use Rattle.file_devices.specs.Files.{FilesSeen, Asks, Reads, given_bytes}
 use Rattle.file_devices.specs.Values.{longest, trimmed, Says, ComesTo, value, long_text}
-use Rattle.file_devices.specs.Devices.{Finds, content, Puts, put_answer, DevicePuts, put, EventPolls, EventLooks, polled}
+use Rattle.file_devices.specs.Devices.{Finds, content, absent, too_long, failed, Puts, put_answer, DevicePuts, put, EventPolls, EventLooks, polled}
 
 pub value_comes : (way : Notation) (bytes text : List ℕ) (o : Option Tree) (v : Tree) → text ≡ trimmed bytes → Says way text o → o ≡ Some v
     → (written : List ℕ) (count : ℕ) → written ≡ json_text v → count ≡ length written → count ≤ longest → ComesTo way bytes (Ok v)
@@ -27,9 +28,21 @@ long_comes way bytes text o v cut says some written count is counted long =
     let long_one : longest < length (json_text v) = subst (λ (t : List ℕ). longest < length t) is (omega arith) in
     long_text v (subst (λ t. Says way t (Some v)) cut (subst (Says way text) some says)) long_one refl
 
+asked : (before now : FilesSeen) (name : List ℕ) (got : Got) (bytes : List ℕ) → Reads before now name longest got bytes → got ≢ Failed → Asks before now name (given_bytes got bytes) got
+asked before now name got bytes reads went = record { held = reads.held; call = reads.call; faults = reads.same went }
+
+pub absent_found : (before now : FilesSeen) (name : List ℕ) (way : Notation) (bytes : List ℕ) → Reads before now name longest Absent bytes → Finds before now name way (Err fault.Absent)
+absent_found before now name way bytes reads = absent reads.answer (asked before now name Absent bytes reads (λ (e : Absent ≡ Failed). absurd cc)) refl
+
+pub too_long_found : (before now : FilesSeen) (name : List ℕ) (way : Notation) (bytes : List ℕ) → Reads before now name longest TooLong bytes → Finds before now name way (Err fault.TooLong)
+too_long_found before now name way bytes reads = too_long reads.answer (asked before now name TooLong bytes reads (λ (e : TooLong ≡ Failed). absurd cc)) refl
+
+pub failed_found : (before now : FilesSeen) (name : List ℕ) (way : Notation) (bytes : List ℕ) → Reads before now name longest Failed bytes → Finds before now name way (Err fault.Failed)
+failed_found before now name way bytes reads = failed (reads.failed refl) reads.held reads.call refl
+
 pub content_found : (before now : FilesSeen) (name : List ℕ) (way : Notation) (bytes : List ℕ) (r : Result (Result Tree FileFault) AllocError)
     → Reads before now name longest Whole bytes → IfOk r (ComesTo way bytes) → IfOk r (Finds before now name way)
-content_found before now name way bytes (Ok found) reads comes = content bytes reads.answer.0 reads.answer.1 comes (reads.same (λ (e : Whole ≡ Failed). absurd cc))
+content_found before now name way bytes (Ok found) reads comes = content bytes reads.answer.0 reads.answer.1 comes (asked before now name Whole bytes reads (λ (e : Whole ≡ Failed). absurd cc))
 content_found before now name way bytes (Err e) reads comes = tt
 
 pub puts_device : (before now : FilesSeen) (name called : List ℕ) (wanted text : Option (List ℕ)) (meant answer : Answer) (was : Result (Unit {0}) FileFault) → called ≡ name → text ≡ wanted
@@ -42,3 +55,17 @@ pub event_looks : (before now : FilesSeen) (name : List ℕ) (way : Notation) (l
     → IfOk r (λ p. EventLooks before now name way last (option_or p.found last) p.answer)
 event_looks before now name way last found (Ok p) finds polls = polled found finds polls
 event_looks before now name way last found (Err e) finds polls = tt
+
+abbrev pub answered : Answer → Result Answer AllocError
+answered a = Ok a
+
+abbrev answer_in : Answer → Result Answer AllocError → Answer
+answer_in other (Ok a) = a
+answer_in other (Err e) = other
+
+-- a Poll whose turn was kept, and the last value then
+pub looks_kept : (before now : FilesSeen) (name : List ℕ) (way : Notation) (last was next found : Option Tree) (given kept : Answer) → EventLooks before now name way last (option_or found last) given
+    → was ≡ last → next ≡ option_or found was → answered given ≡ answered kept → EventLooks before now name way last next kept
+looks_kept before now name way last was next found given kept looks stayed is same =
+    subst (λ (n : Option Tree). EventLooks before now name way last n kept) (sym (is ∙ ap (option_or found) stayed))
+    (subst (λ (a : Answer). EventLooks before now name way last (option_or found last) a) (ap (answer_in given) same) looks)

@@ -1,7 +1,8 @@
 -- The answers of the handlers of devices behind files.
-use Rattle.std.specs.Prelude.{◌≡◌, ◌≢◌, ◌≤◌, ◌<◌, ℕ, List, Option, Some, None, IfSome, IsSomeAnd, Result, Ok, Err, length}
+use Rattle.std.specs.Prelude.{◌≡◌, ◌≢◌, ◌≤◌, ◌<◌, ℕ, List, [], Option, Some, None, IfSome, IsSomeAnd, Result, Ok, Err, length}
 use Rattle.wot_json.specs.Meaning.{json_of}
 use Rattle.wot_json.specs.declared.tree.Tree.{Tree}
+use Rattle.servient_outside.specs.declared.files.Got.TheVariants as got
 use Rattle.servient_outside.specs.Files.{content_of}
 use Rattle.thing_handler.specs.declared.handler.CallKind.{CallKind}
 use Rattle.thing_handler.specs.declared.handler.CallKind.TheVariants.{Read, Write, Invoke, Query, Cancel, Poll}
@@ -9,9 +10,10 @@ use Rattle.thing_handler.specs.declared.handler.Answer.{Answer}
 use Rattle.thing_handler.specs.declared.handler.Answer.TheVariants.{Value, Done, Finished, Quiet, Fired, Refused, DeviceFault}
 use Rattle.file_devices.specs.declared.fault.FileFault.{FileFault}
 use Rattle.file_devices.specs.declared.fault.FileFault.TheVariants as fault
+use Rattle.file_devices.specs.declared.files.FileCall.TheVariants as file_call
 use Rattle.file_devices.specs.declared.files.Wrote.TheVariants as wrote
 use Rattle.file_devices.specs.declared.notation.Notation.{Notation}
-use Rattle.file_devices.specs.Files.{FilesSeen, Fails, Writes}
+use Rattle.file_devices.specs.Files.{FilesSeen, Asks, Fails, MakesCall, Writes}
 use Rattle.file_devices.specs.Values.{longest, ComesTo, text_written, input_written}
 
 -- the numbers of the faults
@@ -24,14 +26,14 @@ fault_number fault.NoText = 5
 
 -- ---- looking
 
--- A look at the file of this name finds this. It changes nothing, but that a failed one is counted.
+-- A look at the file of this name finds this. It is one read, and changes no file; a failed one is counted.
 pub data Finds (before now : FilesSeen) (name : List ℕ) (way : Notation) (found : Result Tree FileFault) : Type 0 where
   content : (bytes : List ℕ) → length bytes ≤ longest → IfSome before.held (λ files. content_of files name ≡ Some bytes)
-      → ComesTo way bytes found → now ≡ before → Finds before now name way found
-  absent : IfSome before.held (λ files. content_of files name ≡ None) → now ≡ before → found ≡ Err fault.Absent → Finds before now name way found
+      → ComesTo way bytes found → Asks before now name bytes got.Whole → Finds before now name way found
+  absent : IfSome before.held (λ files. content_of files name ≡ None) → Asks before now name [] got.Absent → found ≡ Err fault.Absent → Finds before now name way found
   too_long : IfSome before.held (λ files. IsSomeAnd (content_of files name) (λ bytes. longest < length bytes))
-      → now ≡ before → found ≡ Err fault.TooLong → Finds before now name way found
-  failed : Fails before now → now.held ≡ before.held → found ≡ Err fault.Failed → Finds before now name way found
+      → Asks before now name [] got.TooLong → found ≡ Err fault.TooLong → Finds before now name way found
+  failed : Fails before now → now.held ≡ before.held → MakesCall before now (file_call.Read name [] got.Failed) → found ≡ Err fault.Failed → Finds before now name way found
 
 -- ---- writing
 

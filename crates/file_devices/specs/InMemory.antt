@@ -1,13 +1,16 @@
 -- The view of devices' files in memory.
-use Rattle.std.specs.Prelude.{◌≡◌, ◌≤◌, ◌<◌, ℕ, Bool, List, Some, None, IsSome, length, IsTrue}
+use Rattle.std.specs.Prelude.{◌≡◌, ◌≤◌, ◌<◌, ℕ, Bool, List, Option, Some, None, IsSome, length, IsTrue}
 use Rattle.servient_base.specs.Count.{one_more}
 use Rattle.servient_outside.specs.CallCount.{is_failing}
 use Rattle.std.specs.Str.{bytes_eq}
 use Rattle.servient_outside.specs.declared.files.Got.{Got}
 use Rattle.servient_outside.specs.declared.files.Got.TheVariants.{Whole, Absent, TooLong, Failed, NoMemory}
 use Rattle.servient_outside.specs.declared.files.HeldFile.{HeldFile}
+use Rattle.file_devices.specs.declared.call_log.CallLog.{CallLog}
+use Rattle.file_devices.specs.declared.files.FileCall.{FileCall}
 use Rattle.file_devices.specs.declared.files_memory.DeviceFilesMemory.{DeviceFilesMemory}
 use Rattle.servient_outside.specs.Files.{content_of}
+use Rattle.servient_outside.specs.Told.{told_at_zero}
 use Rattle.file_devices.specs.declared.files.Wrote.{Wrote}
 use Rattle.file_devices.specs.declared.files.Wrote.TheVariants as wrote
 use Rattle.file_devices.specs.Files.{FilesSeen, with_content}
@@ -24,8 +27,20 @@ FailsNext f = IsTrue (is_failing f.fails (one_more f.made))
 abbrev pub IsCounted : DeviceFilesMemory → DeviceFilesMemory → Type 0
 IsCounted before now = (now.made ≡ one_more before.made) × (now.fails ≡ before.fails)
 
+-- the calls of a log, where it lists all of them
+abbrev pub told_calls : CallLog → Option (List FileCall)
+told_calls log = told_at_zero log.lost log.calls.items
+
+-- the calls that were listed, and the number of those for which there was no memory
+abbrev pub listed_calls : DeviceFilesMemory → List FileCall
+listed_calls f = f.log.calls.items
+
+abbrev pub lost_calls : DeviceFilesMemory → ℕ
+lost_calls f = f.log.lost
+
+-- all that is seen of them
 abbrev pub seen_of : DeviceFilesMemory → FilesSeen
-seen_of f = record { held = Some (held_files f); faults = f.faults }
+seen_of f = record { held = Some (held_files f); calls = told_calls f.log; faults = f.faults }
 
 -- a file has this name
 abbrev pub is_named : List ℕ → HeldFile → Bool

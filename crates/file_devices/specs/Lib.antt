@@ -5,3 +5,4 @@ pub mod InMemory
 pub mod Seen
 pub mod Entries
 pub mod Slots
+pub mod Once

@@ -46,6 +46,7 @@ impl<D: DeviceFiles> Handler for FileAction<D> {
     ghost use Rattle.std.specs.Prelude.{◌≡◌, IfOk, OnErr};
     ghost use Rattle.thing_handler.specs.Handler.{AnswersCall, forgotten};
     ghost use Rattle.file_devices.specs.Devices.{ActionAnswers};
+    ghost use Rattle.file_devices.specs.Once.{ActionCalls, Tells};
     ghost use Rattle.file_devices.specs.Seen.{action_seen};
 
     ghost seen = { action_seen };
@@ -54,11 +55,14 @@ impl<D: DeviceFiles> Handler for FileAction<D> {
         Kind::Action
     }
 
+    #[tactic(auto, using(crate::proofs::OnceLaws::action_refused))]
     fn call(&mut self, alloc: Global, number: u64, what: &CallKind) -> Result<Answer, NoMemory>
         ensures turn { AnswersCall (action_seen self.old) (action_seen self.new) number what.now result }
         ensures answer { IfOk result (ActionAnswers (D.seen self.old.device.files) (D.seen self.new.device.files)
             self.old.device.name self.old.device.notation what.now) }
         ensures unwritten { OnErr result (self.new.device.files ≡ self.old.device.files) }
+        ensures calls { Tells (ActionCalls self.old.device.name self.old.device.notation what.now result)
+            (D.seen self.old.device.files) (D.seen self.new.device.files) }
         ensures name { self.new.device.name ≡ self.old.device.name }
         ensures notation { self.new.device.notation ≡ self.old.device.notation }
     {

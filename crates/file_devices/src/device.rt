@@ -4,6 +4,7 @@ ghost use Rattle.std.specs.Prelude.{◌≡◌, [], IfOk, OnErr};
 ghost use Rattle.wot_terms.specs.declared.kind.Kind.{Kind};
 ghost use Rattle.thing_handler.specs.Handler.{AnswersCall};
 ghost use Rattle.file_devices.specs.Devices.{DevicePuts, Finds, Puts, call_text, done_answer, put_answer};
+ghost use Rattle.file_devices.specs.Once.{ReadsAtMostOnce, Tells, WritesOnce};
 ghost use Rattle.file_devices.specs.Seen.{device_seen};
 
 use crate::files::{DeviceFiles, Wrote};
@@ -43,10 +44,11 @@ impl<D: DeviceFiles> Device<D> {
     }
 
     /// The value that the file holds now.
-    #[tactic(auto, using(crate::proofs::Looks::content_found))]
+    #[tactic(auto, using(crate::proofs::Looks::content_found, crate::proofs::Looks::absent_found, crate::proofs::Looks::too_long_found, crate::proofs::Looks::failed_found, crate::proofs::OnceLaws::read_told))]
     pub fn value(&mut self, alloc: Global) -> Result<Result<Tree, FileFault>, NoMemory>
         ensures found { IfOk result (Finds (D.seen self.old.files) (D.seen self.new.files) self.old.name self.old.notation) }
         ensures held { (D.seen self.new.files).held ≡ (D.seen self.old.files).held }
+        ensures calls { Tells (ReadsAtMostOnce self.old.name) (D.seen self.old.files) (D.seen self.new.files) }
         ensures name { self.new.name ≡ self.old.name }
         ensures notation { self.new.notation ≡ self.old.notation }
         ensures log { self.new.log ≡ self.old.log }
@@ -71,6 +73,8 @@ impl<D: DeviceFiles> Device<D> {
         ensures puts { IfOk result (DevicePuts (D.seen self.old.files) (D.seen self.new.files) self.old.name
             (call_text self.old.notation what.now) (done_answer what.now)) }
         ensures unwritten { OnErr result (self.new.files ≡ self.old.files) }
+        ensures calls { Tells (WritesOnce self.old.name (call_text self.old.notation what.now) result)
+            (D.seen self.old.files) (D.seen self.new.files) }
         ensures name { self.new.name ≡ self.old.name }
         ensures notation { self.new.notation ≡ self.old.notation }
     {

@@ -3,8 +3,9 @@
 ghost use Rattle.std.specs.Prelude.{◌≡◌, None, IfOk, OnErr};
 ghost use Rattle.std.specs.Option.{option_or};
 ghost use Rattle.wot_terms.specs.declared.kind.Kind.TheVariants as kind;
-ghost use Rattle.thing_handler.specs.Handler.{fresh_handler};
+ghost use Rattle.thing_handler.specs.Handler.{AnswersCall, fresh_handler};
 ghost use Rattle.file_devices.specs.Devices.{EventLooks, EventPolls};
+ghost use Rattle.file_devices.specs.Once.{ReadsAtMostOnce, Tells};
 ghost use Rattle.file_devices.specs.Seen.{event_seen};
 
 use crate::device::Device;
@@ -56,6 +57,7 @@ impl<D: DeviceFiles> FileEvent<D> {
         ensures looks { IfOk result (λ polled. EventLooks (D.seen self.old.device.files) (D.seen self.new.device.files)
             self.old.device.name self.old.device.notation self.old.last (option_or polled.found self.old.last) polled.answer) }
         ensures held { (D.seen self.new.device.files).held ≡ (D.seen self.old.device.files).held }
+        ensures calls { Tells (ReadsAtMostOnce self.old.device.name) (D.seen self.old.device.files) (D.seen self.new.device.files) }
         ensures name { self.new.device.name ≡ self.old.device.name }
         ensures notation { self.new.device.notation ≡ self.old.device.notation }
         ensures log { self.new.device.log ≡ self.old.device.log }
@@ -63,6 +65,43 @@ impl<D: DeviceFiles> FileEvent<D> {
     {
         let found = self.device.value(alloc)?;
         judge_found(alloc, &self.last, found)
+    }
+
+    /// The answer to a Poll, whose turn is kept. The value that it found is the last one then, where its turn was kept.
+    fn answer_poll(
+        &mut self,
+        alloc: Global,
+        number: u64,
+        what: &CallKind,
+    ) -> Result<Answer, NoMemory>
+        ensures turn { AnswersCall (event_seen self.old) (event_seen self.new) number what.now result }
+        ensures looks { IfOk result (EventLooks (D.seen self.old.device.files) (D.seen self.new.device.files)
+            self.old.device.name self.old.device.notation self.old.last self.new.last) }
+        ensures unchanged { OnErr result (self.new.last ≡ self.old.last) }
+        ensures held { (D.seen self.new.device.files).held ≡ (D.seen self.old.device.files).held }
+        ensures calls { Tells (ReadsAtMostOnce self.old.device.name) (D.seen self.old.device.files) (D.seen self.new.device.files) }
+        ensures name { self.new.device.name ≡ self.old.device.name }
+        ensures notation { self.new.device.notation ≡ self.old.device.notation }
+    {
+        let polled = match self.poll(alloc) {
+            Ok(polled) => polled,
+            Err(error) => return self.device.log.keep(alloc, number, what, Err(error)),
+        };
+        let answer = self
+            .device
+            .log
+            .keep(alloc, number, what, Ok(polled.answer))?;
+        keep_found(&mut self.last, polled.found);
+        Ok(answer)
+    }
+}
+
+/// Keeps the value that was found, where one was, as the last one.
+fn keep_found(last: &mut Option<Tree>, found: Option<Tree>)
+    ensures { last.new ≡ option_or found last.old }
+{
+    if let Some(value) = found {
+        *last = Some(value);
     }
 }
 
@@ -98,6 +137,7 @@ impl<D: DeviceFiles> Handler for FileEvent<D> {
     ghost use Rattle.std.specs.Prelude.{◌≡◌, IfOk, OnErr};
     ghost use Rattle.thing_handler.specs.Handler.{AnswersCall, forgotten};
     ghost use Rattle.file_devices.specs.Devices.{EventAnswers};
+    ghost use Rattle.file_devices.specs.Once.{EventCalls, Tells};
     ghost use Rattle.file_devices.specs.Seen.{event_seen};
 
     ghost seen = { event_seen };
@@ -106,29 +146,24 @@ impl<D: DeviceFiles> Handler for FileEvent<D> {
         Kind::Event
     }
 
+    #[tactic(auto, using(crate::proofs::OnceLaws::event_refused))]
     fn call(&mut self, alloc: Global, number: u64, what: &CallKind) -> Result<Answer, NoMemory>
         ensures turn { AnswersCall (event_seen self.old) (event_seen self.new) number what.now result }
         ensures answer { IfOk result (EventAnswers (D.seen self.old.device.files) (D.seen self.new.device.files)
             self.old.device.name self.old.device.notation self.old.last self.new.last what.now) }
         ensures unchanged { OnErr result (self.new.last ≡ self.old.last) }
         ensures unwritten { OnErr result ((D.seen self.new.device.files).held ≡ (D.seen self.old.device.files).held) }
+        ensures calls { Tells (EventCalls self.old.device.name what.now) (D.seen self.old.device.files) (D.seen self.new.device.files) }
         ensures name { self.new.device.name ≡ self.old.device.name }
         ensures notation { self.new.device.notation ≡ self.old.device.notation }
     {
-        let (answer, found) = match what {
-            CallKind::Poll => match self.poll(alloc) {
-                Ok(polled) => (Ok(polled.answer), polled.found),
-                Err(error) => (Err(error), None),
-            },
-            _ => (Ok(Answer::Refused(NOT_ITS_KIND)), None),
-        };
-        let kept = self.device.log.keep(alloc, number, what, answer);
-        if kept.is_ok()
-            && let Some(value) = found
-        {
-            self.last = Some(value);
+        match what {
+            CallKind::Poll => self.answer_poll(alloc, number, what),
+            _ => {
+                let refused = Ok(Answer::Refused(NOT_ITS_KIND));
+                self.device.log.keep(alloc, number, what, refused)
+            }
         }
-        kept
     }
 
     fn turns(&self) -> &[Turn] {

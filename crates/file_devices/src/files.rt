@@ -2,7 +2,7 @@
 
 use servient_outside::Got;
 use std::alloc::Global;
-use wot_json::Bytes;
+use wot_json::{Bytes, Text};
 
 /// The answer of `DeviceFiles::write`.
 #[derive(Clone, Copy, Debug, PartialEq, Eq)]
@@ -15,11 +15,20 @@ pub enum Wrote {
     Failed,
 }
 
+/// A call of `DeviceFiles`.
+#[derive(Debug, Drop)]
+pub enum FileCall {
+    /// The file of this name was read, and gave these bytes: none where the answer isn't `Whole`.
+    Read(Text, Bytes, Got),
+    /// These bytes were written to the file of this name.
+    Write(Text, Bytes, Wrote),
+}
+
 /// The files of devices.
 pub trait DeviceFiles: Drop {
     ghost use Rattle.file_devices.specs.Files.{FilesSeen, Reads, Writes};
 
-    /// Their content, where that is recorded, and the number of calls that failed.
+    /// Their content and the calls that were made, where they are recorded, and the number of calls that failed.
     ghost seen: { Self → FilesSeen };
 
     /// Reads a whole file of at most `limit` bytes. After any answer but `Whole` the content of `into` is open, and

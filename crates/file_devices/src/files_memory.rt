@@ -1,36 +1,43 @@
-//! Files of devices in memory.
+//! Files of devices in memory, which list the calls that were made as long as there is memory for each.
 
-ghost use Rattle.std.specs.Prelude.{◌≡◌, ◌≢◌, ◌↔◌, Some, IsTrue, IsFalse};
+ghost use Rattle.std.specs.Prelude.{◌≡◌, ◌≢◌, ◌↔◌, ℕ, List, [], Some, IfOk, IsTrue, IsFalse};
 ghost use Rattle.std.specs.List.{position};
 ghost use Rattle.servient_outside.specs.Files.{AnswersRead};
-ghost use Rattle.file_devices.specs.Files.{Fails};
+ghost use Rattle.file_devices.specs.Files.{Fails, LeavesWritten, given_bytes};
 ghost use Rattle.file_devices.specs.InMemory.{FailsNext, IsCounted, ReadsContent, WritesAmong, is_named, seen_of};
+ghost use Rattle.file_devices.specs.InMemory.{listed_calls, lost_calls};
 
-use crate::files::{DeviceFiles, Wrote};
+use crate::call_log::CallLog;
+use crate::files::{DeviceFiles, FileCall, Wrote};
+use servient_base::NoMemory;
 use servient_outside::{Calls, Got, Held, HeldFile};
 use std::alloc::Global;
-use wot_json::Bytes;
+use wot_json::{Bytes, Text};
 
 /// Files of devices in memory. Of two files of one name the first counts.
 #[derive(Drop)]
 pub struct DeviceFilesMemory {
+    alloc: Global,
     files: Vec<HeldFile>,
     fails: Calls,
     made: u64,
     faults: u64,
+    log: CallLog,
 }
 
 impl DeviceFilesMemory {
     /// Files that hold this, and whose calls of these numbers fail, reads and writes counted together from 1.
-    pub fn new(files: Held, fails: Calls) -> Self
+    pub fn new(alloc: Global, files: Held, fails: Calls) -> Self
         ensures calls { (result.made ≡ 0) × (result.fails ≡ fails) }
-        ensures seen { seen_of result ≡ record { held = Some files; faults = 0 } }
+        ensures seen { seen_of result ≡ record { held = Some files; calls = Some []; faults = 0 } }
     {
         DeviceFilesMemory {
+            alloc,
             files: files.into_vec(),
             fails,
             made: 0,
             faults: 0,
+            log: CallLog::new(alloc),
         }
     }
 
@@ -41,9 +48,25 @@ impl DeviceFilesMemory {
         self.files.as_slice()
     }
 
+    /// The calls that were listed, in order. They are all that were made where `lost` is 0.
+    pub fn calls(&self) -> &[FileCall]
+        ensures listed { result.now ≡ listed_calls self.now }
+        ensures told { lost_calls self.now ≡ 0 → (seen_of self.now).calls ≡ Some result.now }
+    {
+        self.log.calls.as_slice()
+    }
+
+    /// The number of calls for which there was no memory in the list. At its last value, 2^64 - 1, it stays.
+    pub fn lost(&self) -> u64
+        ensures { result ≡ lost_calls self.now }
+    {
+        self.log.lost
+    }
+
     /// Counts a call, and says whether it fails. A failure is counted.
     fn fails_now(&mut self) -> bool
         ensures files { self.new.files ≡ self.old.files }
+        ensures log { self.new.log ≡ self.old.log }
         ensures next { IsTrue result ↔ FailsNext self.old }
         ensures counted { IsCounted self.old self.new }
         ensures fails { IsTrue result → Fails (seen_of self.old) (seen_of self.new) }
@@ -56,6 +79,67 @@ impl DeviceFilesMemory {
         }
         fails
     }
+
+    /// Reads a file. The call isn't listed.
+    fn look(&mut self, alloc: Global, name: &str, limit: usize, into: &mut Bytes) -> Got
+        ensures answer { AnswersRead (seen_of self.old).held name.now limit result into.new }
+        ensures files { self.new.files ≡ self.old.files }
+        ensures log { self.new.log ≡ self.old.log }
+        ensures same { result ≢ Got.Failed → self.new.faults ≡ self.old.faults }
+        ensures failed { result ≡ Got.Failed → Fails (seen_of self.old) (seen_of self.new) }
+        ensures fails_only { result ≡ Got.Failed → FailsNext self.old }
+        ensures fails { FailsNext self.old → result ≡ Got.Failed }
+        ensures counted { IsCounted self.old self.new }
+    {
+        if self.fails_now() {
+            return Got::Failed;
+        }
+        read_named(self.files.as_slice(), alloc, name, limit, into)
+    }
+
+    /// Writes a file. The call isn't listed.
+    fn put(&mut self, name: &str, content: Bytes) -> Wrote
+        ensures leaves { LeavesWritten (seen_of self.old) (seen_of self.new) name.now content result }
+        ensures log { self.new.log ≡ self.old.log }
+        ensures fails_only { result ≡ Wrote.Failed → FailsNext self.old }
+        ensures fails { FailsNext self.old → result ≡ Wrote.Failed }
+        ensures counted { IsCounted self.old self.new }
+    {
+        if self.fails_now() {
+            return Wrote::Failed;
+        }
+        write_named(self.files.as_mut_slice(), name, content)
+    }
+}
+
+/// The call of a read that left these bytes.
+fn read_call(alloc: Global, name: &str, got: Got, into: &Bytes) -> Result<FileCall, NoMemory>
+    ensures { IfOk result (λ call. call ≡ FileCall.Read name.now (given_bytes got into.now) got) }
+{
+    let name = Text::copy_of(alloc, name)?;
+    let bytes = match got {
+        Got::Whole => Bytes::copy_of(alloc, into.as_slice())?,
+        Got::Absent | Got::TooLong | Got::Failed | Got::NoMemory => Bytes::new(alloc),
+    };
+    Ok(FileCall::Read(name, bytes, got))
+}
+
+/// A copy of a name and of a content.
+fn copy_both(alloc: Global, name: &str, content: &Bytes) -> Result<(Text, Bytes), NoMemory>
+    ensures { IfOk result (λ copied. copied ≡ (name.now, content.now)) }
+{
+    let name = Text::copy_of(alloc, name)?;
+    Ok((name, Bytes::copy_of(alloc, content.as_slice())?))
+}
+
+/// The call of a write of this content to the file of this name.
+#[tactic(auto, using(crate::proofs::CallLists::written_so))]
+fn write_call(copied: Result<(Text, Bytes), NoMemory>, wrote: Wrote) -> Result<FileCall, NoMemory>
+    ensures { (name content : List ℕ) → IfOk copied (λ c. c ≡ (name, content))
+        → IfOk result (λ call. call ≡ FileCall.Write name content wrote) }
+{
+    let (name, content) = copied?;
+    Ok(FileCall::Write(name, content, wrote))
 }
 
 impl DeviceFiles for DeviceFilesMemory {
@@ -72,10 +156,9 @@ impl DeviceFiles for DeviceFilesMemory {
         ensures fails { FailsNext self.old → result ≡ Got.Failed }
         ensures counted { IsCounted self.old self.new }
     {
-        if self.fails_now() {
-            return Got::Failed;
-        }
-        read_named(self.files.as_slice(), alloc, name, limit, into)
+        let got = self.look(alloc, name, limit, into);
+        self.log.keep(read_call(self.alloc, name, got, into));
+        got
     }
 
     fn write(&mut self, name: &str, content: Bytes) -> Wrote
@@ -84,10 +167,10 @@ impl DeviceFiles for DeviceFilesMemory {
         ensures fails { FailsNext self.old → result ≡ Wrote.Failed }
         ensures counted { IsCounted self.old self.new }
     {
-        if self.fails_now() {
-            return Wrote::Failed;
-        }
-        write_named(self.files.as_mut_slice(), name, content)
+        let copied = copy_both(self.alloc, name, &content);
+        let wrote = self.put(name, content);
+        self.log.keep(write_call(copied, wrote));
+        wrote
     }
 }
 

@@ -12,11 +12,13 @@
 //! ```
 //!
 //! The answers of the handlers are `specs/Devices.antt`. The value of a file's content and the text that is written of
-//! a value are `specs/Values.antt`. The files are a trait, `DeviceFiles`, so that contracts speak of reads and writes
-//! of files in memory.
+//! a value are `specs/Values.antt`. The calls of files in a call of a handler are `specs/Once.antt`: a text is written
+//! once, or not at all. The files are a trait, `DeviceFiles`, so that contracts speak of reads and writes of files in
+//! memory.
 #![tactic(auto)]
 
 mod action;
+mod call_log;
 mod device;
 mod entries;
 mod event;
@@ -32,7 +34,7 @@ pub use action::FileAction;
 pub use entries::{DeviceEntries, DeviceEntry, EntriesFault, read_entries};
 pub use event::FileEvent;
 pub use fault::FileFault;
-pub use files::{DeviceFiles, Wrote};
+pub use files::{DeviceFiles, FileCall, Wrote};
 pub use files_memory::DeviceFilesMemory;
 pub use notation::Notation;
 pub use property::FileProperty;

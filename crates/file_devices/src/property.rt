@@ -4,6 +4,7 @@ ghost use Rattle.std.specs.Prelude.{◌≡◌, IfOk};
 ghost use Rattle.wot_terms.specs.declared.kind.Kind.TheVariants as kind;
 ghost use Rattle.thing_handler.specs.Handler.{fresh_handler};
 ghost use Rattle.file_devices.specs.Devices.{PropertyReads, value_answer};
+ghost use Rattle.file_devices.specs.Once.{ReadsAtMostOnce, Tells};
 ghost use Rattle.file_devices.specs.Seen.{property_seen};
 
 use crate::device::Device;
@@ -44,6 +45,7 @@ impl<D: DeviceFiles> FileProperty<D> {
         ensures answer { IfOk result (PropertyReads (D.seen self.old.device.files) (D.seen self.new.device.files)
             self.old.device.name self.old.device.notation) }
         ensures held { (D.seen self.new.device.files).held ≡ (D.seen self.old.device.files).held }
+        ensures calls { Tells (ReadsAtMostOnce self.old.device.name) (D.seen self.old.device.files) (D.seen self.new.device.files) }
         ensures name { self.new.device.name ≡ self.old.device.name }
         ensures notation { self.new.device.notation ≡ self.old.device.notation }
         ensures log { self.new.device.log ≡ self.old.device.log }
@@ -67,6 +69,7 @@ impl<D: DeviceFiles> Handler for FileProperty<D> {
     ghost use Rattle.std.specs.Prelude.{◌≡◌, IfOk, OnErr};
     ghost use Rattle.thing_handler.specs.Handler.{AnswersCall, forgotten};
     ghost use Rattle.file_devices.specs.Devices.{PropertyAnswers};
+    ghost use Rattle.file_devices.specs.Once.{PropertyCalls, Tells};
     ghost use Rattle.file_devices.specs.Seen.{property_seen};
 
     ghost seen = { property_seen };
@@ -75,11 +78,14 @@ impl<D: DeviceFiles> Handler for FileProperty<D> {
         Kind::Property
     }
 
+    #[tactic(auto, using(crate::proofs::OnceLaws::property_refused))]
     fn call(&mut self, alloc: Global, number: u64, what: &CallKind) -> Result<Answer, NoMemory>
         ensures turn { AnswersCall (property_seen self.old) (property_seen self.new) number what.now result }
         ensures answer { IfOk result (PropertyAnswers (D.seen self.old.device.files) (D.seen self.new.device.files)
             self.old.device.name self.old.device.notation what.now) }
         ensures unwritten { OnErr result ((D.seen self.new.device.files).held ≡ (D.seen self.old.device.files).held) }
+        ensures calls { Tells (PropertyCalls self.old.device.name self.old.device.notation what.now result)
+            (D.seen self.old.device.files) (D.seen self.new.device.files) }
         ensures name { self.new.device.name ≡ self.old.device.name }
         ensures notation { self.new.device.notation ≡ self.old.device.notation }
     {

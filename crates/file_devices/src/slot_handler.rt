@@ -1,10 +1,10 @@
 //! The handler in a slot of a gateway's rack: a device behind a file, or else the handler in memory that the product
 //! ships for the slot.
 
-ghost use Rattle.std.specs.Prelude.{◌≡◌, ◌<◌, IfOk, option_map};
+ghost use Rattle.std.specs.Prelude.{◌≡◌, ◌<◌, Some, IfOk, option_map};
 ghost use Rattle.thing_handler.specs.Handler.{fresh_handler};
 ghost use Rattle.thing_handler.specs.Shipped.{device_kind, shipped_device};
-ghost use Rattle.file_devices.specs.Slots.{slot_files, slot_seen};
+ghost use Rattle.file_devices.specs.Slots.{entry_device, slot_device, slot_files, slot_seen, slot_shipped};
 
 use crate::{DeviceEntry, DeviceFiles, FileAction, FileEvent, FileProperty};
 use servient_base::NoMemory;
@@ -27,7 +27,9 @@ pub fn file_handler<D: DeviceFiles>(
     files: D,
     entry: &DeviceEntry,
 ) -> Result<SlotHandler<D>, NoMemory>
-    ensures { IfOk result (λ handler. slot_seen handler ≡ fresh_handler entry.now.kind) }
+    ensures seen { IfOk result (λ handler. slot_seen handler ≡ fresh_handler entry.now.kind) }
+    ensures device { IfOk result (λ handler. slot_device handler ≡ Some (entry_device entry.now)) }
+    ensures files { IfOk result (λ handler. slot_files handler ≡ Some files) }
 {
     let path = Text::copy_of(alloc, entry.path.as_str())?;
     Ok(match entry.kind {
@@ -42,7 +44,8 @@ pub fn file_handler<D: DeviceFiles>(
 /// The handler that the product ships for this slot.
 pub fn shipped_handler<D: DeviceFiles>(alloc: Global, slot: usize) -> SlotHandler<D>
     requires { slot < 64 }
-    ensures { slot_seen result ≡ fresh_handler (device_kind (shipped_device slot)) }
+    ensures seen { slot_seen result ≡ fresh_handler (device_kind (shipped_device slot)) }
+    ensures device { slot_shipped result ≡ Some (shipped_device slot) }
 {
     SlotHandler::Shipped(shipped_in(alloc, slot))
 }
@@ -62,7 +65,10 @@ impl<D: DeviceFiles> SlotHandler<D> {
 }
 
 impl<D: DeviceFiles> Handler for SlotHandler<D> {
-    ghost use Rattle.file_devices.specs.Slots.{slot_seen};
+    ghost use Rattle.std.specs.Prelude.{◌≡◌};
+    ghost use Rattle.thing_handler.specs.Handler.{AnswersCall};
+    ghost use Rattle.file_devices.specs.Once.{SlotCalls};
+    ghost use Rattle.file_devices.specs.Slots.{slot_device, slot_seen};
 
     ghost seen = { slot_seen };
 
@@ -75,7 +81,11 @@ impl<D: DeviceFiles> Handler for SlotHandler<D> {
         }
     }
 
-    fn call(&mut self, alloc: Global, number: u64, what: &CallKind) -> Result<Answer, NoMemory> {
+    fn call(&mut self, alloc: Global, number: u64, what: &CallKind) -> Result<Answer, NoMemory>
+        ensures turn { AnswersCall (slot_seen self.old) (slot_seen self.new) number what.now result }
+        ensures calls { SlotCalls D.seen self.old self.new what.now result }
+        ensures device { slot_device self.new ≡ slot_device self.old }
+    {
         match self {
             SlotHandler::Shipped(handler) => handler.call(alloc, number, what),
             SlotHandler::Property(handler) => handler.call(alloc, number, what),

@@ -11,7 +11,7 @@ use std::io::{ErrorKind, Write};
 use std::{io, rt};
 use wot_json::Bytes;
 
-/// The files of the machine. Their content isn't recorded; it counts failures.
+/// The files of the machine. Their content and the calls aren't recorded; it counts failures.
 #[derive(Drop)]
 pub struct DeviceFilesReal<R: rt::Files + Drop> {
     rt: R,
@@ -73,7 +73,7 @@ impl<R: rt::Files + Drop> DeviceFiles for DeviceFilesReal<R> {
     ghost use Rattle.std.specs.Prelude.{None};
     ghost use Rattle.file_devices.specs.Files.{Fails, Reads, Writes};
 
-    ghost seen = { λ f. record { held = None; faults = f.faults } };
+    ghost seen = { λ f. record { held = None; calls = None; faults = f.faults } };
 
     fn read(&mut self, alloc: Global, name: &str, limit: usize, into: &mut Bytes) -> Got {
         match self.files.read(alloc, name, limit, into) {

@@ -4,7 +4,8 @@
 //! It is a library so that each stored run is a program of this one call.
 #![tactic(auto)]
 
-ghost use Rattle.std.specs.Prelude.{◌<◌};
+ghost use Rattle.std.specs.Prelude.{◌<◌, ◌==◌, IfOk, find};
+ghost use Rattle.file_devices.specs.Slots.{IsHandlerAt};
 
 mod device_files;
 mod devices;
@@ -74,6 +75,7 @@ fn handler_at(
     slot: usize,
 ) -> Result<SlotHandler<DeviceFilesReal<HostRuntime>>, NoMemory>
     requires { slot < 64 }
+    ensures { IfOk result (IsHandlerAt slot (find (λ e. e.slot == slot) entries.now)) }
 {
     let alloc: Global = rt.alloc();
     match entries.at(slot as u32) {

@@ -1,11 +1,15 @@
 //! Laws of the server, as contracts of functions that do nothing, since a law is proved only as a clause.
 
+ghost use Rattle.std.specs.Prelude.{◌≡◌};
 ghost use Rattle.coap_bind.specs.Duplicates.{OnlyConfirmableAreKept, DuplicatesChangeNothing, DuplicatesGetTheFirstReply, OnlyTheFirstReplyIsRepeated};
 ghost use Rattle.coap_bind.specs.Histories.{HearingGoesOn, AskedIsAdmitted};
 ghost use Rattle.coap_bind.specs.Laws.{ExchangesAreOfTheHistory, DuplicatesAskNothing, AsksAreOpen, RepliesFit};
 ghost use Rattle.coap_bind.specs.Messages.{RepliesAreMessages, LinksAreMessages, NotificationsAreMessages};
 ghost use Rattle.coap_bind.specs.Transfers.{AnswersLeaveTheParts, NoWholeBodyStays, RequestsWithoutBlocksAct};
 ghost use Rattle.coap_bind.specs.Treating.{AllAreTreated};
+
+use crate::links::LINK_FORMAT;
+use crate::portion::{LARGEST_SZX, LONGEST_BODY};
 
 /// The exchanges of a server are those of the admitted requests that live (RFC 7252, section 4.5).
 pub fn exchanges_are_of_the_history()
@@ -87,4 +91,12 @@ pub fn sent_are_messages()
     ensures replies { RepliesAreMessages }
     ensures links { LinksAreMessages }
     ensures notifications { NotificationsAreMessages }
+{}
+
+/// The constants of replies as numbers: the format of the links (RFC 6690, section 7.4), the size exponent of the largest
+/// block (RFC 7959, section 2.2), and the most bytes of a body.
+pub fn constants_are_these()
+    ensures link_format { LINK_FORMAT ≡ 40 }
+    ensures largest_szx { LARGEST_SZX ≡ 6 }
+    ensures longest_body { LONGEST_BODY ≡ 65536 }
 {}

@@ -57,7 +57,7 @@ mod writing;
 
 pub use bind::CoapBind;
 pub use laws::{
-    all_are_treated, asked_is_admitted, asks_are_open, duplicates_ask_nothing,
+    all_are_treated, asked_is_admitted, asks_are_open, constants_are_these, duplicates_ask_nothing,
     duplicates_change_nothing, duplicates_get_the_first_reply, exchanges_are_of_the_history,
     hearing_goes_on, no_whole_body_stays, only_confirmable_are_kept,
     only_the_first_reply_is_repeated, replies_fit, requests_without_blocks_act, sent_are_messages,

@@ -14,7 +14,7 @@ use coap_opts::CoapAsk;
 use thing_ops::Segments;
 
 /// The content format of links (RFC 6690, section 7.3).
-const LINK_FORMAT: u16 = 40;
+pub(crate) const LINK_FORMAT: u16 = 40;
 
 /// The number of segments of `/.well-known/core`.
 const SEGMENTS: usize = 2;

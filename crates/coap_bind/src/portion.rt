@@ -11,7 +11,7 @@ use coap_msg::{Block, DETAILS, LONGEST_PAYLOAD, SUCCESS};
 use thing_ops::{Outcome, coap_code};
 
 /// The exponent of the size of the largest block, 1,024 bytes (RFC 7959, section 2.2).
-const LARGEST_SZX: u8 = 6;
+pub(crate) const LARGEST_SZX: u8 = 6;
 
 /// The most bytes of a payload that is given in blocks.
 pub const LONGEST_BODY: usize = 65_536;

@@ -13,7 +13,7 @@ use std::marker::Model;
 use thing_ops::Segments;
 
 /// The number of bodies that are kept.
-const MOST_BODIES: usize = 16;
+pub(crate) const MOST_BODIES: usize = 16;
 
 /// The bodies of responses that were given in blocks (RFC 7959, section 2.4). Contracts see those that are kept, in the
 /// order in which they were put; the age of one is judged when it is sought.

@@ -15,7 +15,7 @@ use std::marker::Model;
 use thing_ops::Segments;
 
 /// The most bytes of a body of a response.
-const LONGEST_BODY: usize = 65_536;
+pub(crate) const LONGEST_BODY: usize = 65_536;
 
 /// A place for a body. Contracts see the body in it (`Body` of specs/Bodies.antt). Taking another body takes no memory.
 #[derive(Drop)]

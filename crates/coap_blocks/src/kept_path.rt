@@ -12,7 +12,7 @@ use thing_ops::{Segments, piece};
 
 /// The most that the segments of a path and their bytes may be, together: the size of a datagram, since each segment
 /// has a byte there beside its value.
-const LARGEST_PATH: usize = 1280;
+pub(crate) const LARGEST_PATH: usize = 1280;
 
 /// A path. Contracts see the list of its segments. They lie in one room, so that taking another path takes no memory.
 #[derive(Drop)]

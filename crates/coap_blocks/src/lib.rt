@@ -45,8 +45,8 @@ mod whole;
 pub use added::Added;
 pub use bodies::Bodies;
 pub use laws::{
-    bodies_are_ones_own, bodies_follow_the_puts, parts_are_rows, the_last_body_is_got,
-    whole_bodies_are_rows,
+    bodies_are_ones_own, bodies_follow_the_puts, constants_are_these, parts_are_rows,
+    the_last_body_is_got, whole_bodies_are_rows,
 };
 pub use parts::Parts;
 pub use servient_base::NoMemory;

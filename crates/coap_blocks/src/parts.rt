@@ -15,7 +15,7 @@ use std::marker::Model;
 use thing_ops::Segments;
 
 /// The number of parts that are kept.
-const MOST_PARTS: usize = 8;
+pub(crate) const MOST_PARTS: usize = 8;
 
 /// The bodies of requests that come in blocks, as far as they came (RFC 7959, section 2.5). Contracts see the list of
 /// them (`Part` of specs/Parts.antt), and a place is the index of a part in it, which stands until the next call of

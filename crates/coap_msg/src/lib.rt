@@ -66,7 +66,8 @@ pub use empty::{put_empty_reply, put_rejection};
 pub use encoding::{Plain, encode};
 pub use endpoint::{Endpoint, is_same_endpoint};
 pub use laws::{
-    blocks_are_read_again, no_fault, one_fault, one_message, one_spelling, read_blocks_are_blocks,
+    blocks_are_read_again, constants_are_these, no_fault, one_fault, one_message, one_spelling,
+    read_blocks_are_blocks,
 };
 pub use message::{Message, MsgFault, RequestType, Type4};
 pub use numbers::{number_of, put_number};

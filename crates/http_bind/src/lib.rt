@@ -45,7 +45,7 @@ mod waits;
 mod writing;
 
 pub use bind::{HttpBind, ROOM, new_room};
-pub use laws::each_connection_takes_its_stream;
+pub use laws::{constants_are_these, each_connection_takes_its_stream};
 pub use next::HttpNext;
 pub use out::HttpOut;
 pub use thing_ops::NoMemory;

@@ -20,6 +20,7 @@ mod commands;
 mod consumption;
 mod counting;
 mod discovery;
+mod laws;
 mod listening;
 mod main_call;
 mod opening;
@@ -28,5 +29,6 @@ mod replay;
 mod storming;
 
 pub use command_stages::{Ended, Ending, LONGEST_JSON, end_with, read_file, read_tree};
+pub use laws::constants_are_these;
 pub use main_call::{report, servient_main};
 pub use servient_script::{Script, ScriptFault, each_event_has_fields, lines_are_cut_in_one_way};

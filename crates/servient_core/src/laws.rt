@@ -18,6 +18,9 @@ ghost use Rattle.servient_core.specs.Meaning.{Message, IsWritten, HaveOneMeaning
 ghost use Rattle.servient_core.specs.Runs.{EachRunHasAHistory, ServingHasAHistory, MissesAreCounted};
 ghost use Rattle.servient_core.specs.declared.layers.Layers.{Layers};
 
+use crate::capacity::MOST_WATCHERS;
+use crate::sections::MOST_KEPT;
+
 /// Serving answers `Failed` exactly where the network broke, which it did at the end and nowhere before.
 pub fn failing_is_exact()
     ensures exactly { (site : Site) → (budget : ℕ) → (result : Served) → (s t : State) → (seen : List Sighting)
@@ -80,4 +83,10 @@ pub fn links_name_each_thing()
 /// value.
 pub fn misses_are_counted()
     ensures { MissesAreCounted }
+{}
+
+/// The constants of a servient as numbers: its observers, and the turns that a run without an end keeps.
+pub fn constants_are_these()
+    ensures most_watchers { MOST_WATCHERS ≡ 1024 }
+    ensures most_kept { MOST_KEPT ≡ 4096 }
 {}

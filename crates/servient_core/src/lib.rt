@@ -31,9 +31,9 @@ mod servient;
 mod serving;
 
 pub use laws::{
-    directory_is_apart, duplicates_act_on_nothing, each_run_has_a_history, each_stands_for_a_state,
-    failing_is_exact, full_table_acts_on_nothing, links_name_each_thing, misses_are_counted,
-    one_meaning, turns_are_numbered,
+    constants_are_these, directory_is_apart, duplicates_act_on_nothing, each_run_has_a_history,
+    each_stands_for_a_state, failing_is_exact, full_table_acts_on_nothing, links_name_each_thing,
+    misses_are_counted, one_meaning, turns_are_numbered,
 };
 pub use sections::{RunBounds, SectionsEnd, serve_in_sections};
 pub use servient::{OpenFault, Servient};

@@ -18,7 +18,7 @@ mod print;
 mod script;
 mod turns;
 
-pub use laws::{each_event_has_fields, lines_are_cut_in_one_way};
+pub use laws::{constants_are_these, each_event_has_fields, lines_are_cut_in_one_way};
 pub use print::{put_acts, put_number};
 pub use script::{LONGEST_SCRIPT, Script, ScriptFault};
 pub use turns::{put_turns, turn_counts, turns_since};

@@ -28,7 +28,7 @@ use wot_json::{Bytes, NoMemory};
 pub const LONGEST_SCRIPT: usize = 16_777_216;
 
 /// The latest moment of an event, in milliseconds.
-const LATEST_MOMENT: u64 = 1_000_000_000_000_000;
+pub(crate) const LATEST_MOMENT: u64 = 1_000_000_000_000_000;
 
 /// The most bytes of a datagram, and those that come at once on a connection.
 const LONGEST_DATAGRAM: usize = 2048;
@@ -39,10 +39,10 @@ const LONGEST_PIECE: usize = 4096;
 const LAST_CONNECTION: u64 = 63;
 
 /// The most fields of a line.
-const MOST_FIELDS: usize = 4;
+pub(crate) const MOST_FIELDS: usize = 4;
 
 /// Each line ends with it.
-const LINE_FEED: u8 = b'\n';
+pub(crate) const LINE_FEED: u8 = b'\n';
 
 /// The cause for which some bytes are no script.
 #[derive(Debug, Drop, Error)]

@@ -1,9 +1,12 @@
 //! Laws of the world of both ends, as contracts of functions that do nothing, since a law is proved only as a clause.
 
+ghost use Rattle.std.specs.Prelude.{◌≡◌};
 ghost use Rattle.servient_world.specs.Examples.{SomeoneActs, SomeoneTakesAValue};
 ghost use Rattle.servient_world.specs.Led.{AllAreLed};
 ghost use Rattle.servient_world.specs.Rows.{ReadsAreOfOneAct, WritesAreOneAct};
 ghost use Rattle.servient_world.specs.Laws.{ActedOnce, AnsweredOnce, ObservedOnce, ValuesNeverGoBack, ValuesHaveASource};
+
+use crate::network::MAX_LATENCY;
 
 /// For each ask the server makes at most one act, whatever is lost, duplicated or reordered.
 pub fn acted_once()
@@ -55,4 +58,9 @@ pub fn someone_acts()
 /// There is a run in which the client takes a value.
 pub fn someone_takes_a_value()
     ensures { SomeoneTakesAValue }
+{}
+
+/// The greatest time on the way of a datagram (RFC 7252, section 4.8.2), in milliseconds.
+pub fn constants_are_these()
+    ensures max_latency { MAX_LATENCY ≡ 100000 }
 {}

@@ -7,7 +7,8 @@ mod laws;
 mod network;
 
 pub use laws::{
-    acted_once, all_are_led, answered_once, observed_once, reads_are_of_one_act, someone_acts,
-    someone_takes_a_value, values_have_a_source, values_never_go_back, writes_are_one_act,
+    acted_once, all_are_led, answered_once, constants_are_these, observed_once,
+    reads_are_of_one_act, someone_acts, someone_takes_a_value, values_have_a_source,
+    values_never_go_back, writes_are_one_act,
 };
 pub use network::MAX_LATENCY;

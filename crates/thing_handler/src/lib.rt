@@ -25,6 +25,7 @@
 mod cell;
 mod handler;
 mod job;
+mod laws;
 mod pulse;
 mod rack;
 mod scripted;
@@ -34,6 +35,7 @@ mod turn_log;
 pub use cell::Cell;
 pub use handler::{Answer, CallKind, Handler, NOT_ITS_KIND, Turn};
 pub use job::Job;
+pub use laws::constants_are_these;
 pub use pulse::Pulse;
 pub use rack::{Handlers, Rack};
 pub use scripted::Scripted;

@@ -9,7 +9,7 @@ use std::alloc::Global;
 use wot_json::{Tree, copy};
 
 /// The most turns for which a handler keeps room where it forgets them.
-const MOST_ROOM: usize = 8192;
+pub(crate) const MOST_ROOM: usize = 8192;
 
 /// The turns of one handler, in order, and the count of calls that were out of memory.
 #[derive(Drop)]

@@ -18,6 +18,11 @@ pub fn text_is_read_back()
     ensures { (v : Json) → IsWellFormed v → nesting v ≤ MAX_DEPTH → tree_of (text_of v) ≡ Some v }
 {}
 
+/// The most levels that a text that is read may nest, as a number.
+pub fn constants_are_these()
+    ensures max_depth { MAX_DEPTH ≡ 64 }
+{}
+
 /// A merge patch acts member by member (RFC 7396, section 2), and its result is well formed.
 ///
 /// A member of the result is the target's where the patch doesn't name it, there is none where the patch has null, and

@@ -31,8 +31,8 @@ pub use bytes::Bytes;
 pub use equality::is_equal;
 pub use json_text::{quoted, quoted_length, text_of, write};
 pub use laws::{
-    merge_goes_by_members, merging_twice_is_merging_once, pointers_are_their_tokens,
-    text_is_read_back, tree_is_well_formed,
+    constants_are_these, merge_goes_by_members, merging_twice_is_merging_once,
+    pointers_are_their_tokens, text_is_read_back, tree_is_well_formed,
 };
 pub use lookup::{BadPointer, pointer};
 pub use patch::merge_patch;

@@ -1,16 +1,17 @@
 -- Laws of acts that a network in memory keeps.
-use Rattle.std.proofs.Common.{◌≡◌, ℕ, zero, suc, List, [], ◌∷◌, refl, sym, arith, true, false, inl, inr, subst}
+use Rattle.std.proofs.Common.{◌≡◌, ℕ, zero, suc, List, [], ◌∷◌, refl, sym, ap, ◌∙◌, arith, true, false, inl, inr, subst}
 use Rattle.std.specs.Prelude.{Result, Ok, Err, IfOk, IsSome, ◌⊎◌, Option}
 use Rattle.std.specs.declared.alloc.AllocError.{AllocError}
 use Rattle.servient_base.specs.Count.{one_more, RoseBy}
 use Rattle.servient_outside.specs.declared.act_log.ActLog.{ActLog}
+use Rattle.servient_outside.specs.declared.calls.CallCount.{CallCount}
 use Rattle.servient_outside.specs.declared.net.Act.{Act}
 use Rattle.servient_outside.specs.declared.net.EventWithBytes.{EventWithBytes}
 use Rattle.servient_outside.specs.declared.net.Act.TheVariants as act
 use Rattle.servient_outside.specs.declared.net_memory.NetMemory.{NetMemory}
 use Rattle.servient_outside.specs.declared.place.Place.{Place}
 use Rattle.servient_outside.specs.ActLog.{AddsAct, LosesAct, KeepsIfMade}
-use Rattle.servient_outside.specs.CallCount.{is_failing}
+use Rattle.servient_outside.specs.CallCount.{is_failing, none_fails}
 use Rattle.servient_outside.specs.Told.{told_at_zero, Continues}
 use Rattle.servient_outside.specs.Order.{made_after, breaks_after}
 use Rattle.servient_outside.specs.Network.{Happening, did, broke, listening, break_count, Leaves, NetShows}
@@ -52,9 +53,9 @@ call_made (act.Looked host port to) made is = refl
 
 -- an act that can't fail is all that is seen of it
 pub shows_act : (before now : NetMemory) (a : Act) → IsNoCall a → GoesOnBy before now a → left_events now ≡ left_events before → KeepsEvents before now → NetShows (net_seen before) (net_seen now) (did a ∷ [])
-shows_act before now (act.Sent c bytes) is h left stays = record { history = h; left = left; faults = omega (arith, stays.faults) }
-shows_act before now (act.Closed c) is h left stays = record { history = h; left = left; faults = omega (arith, stays.faults) }
-shows_act before now (act.Datagram to bytes) is h left stays = record { history = h; left = left; faults = omega (arith, stays.faults) }
+shows_act before now (act.Sent c bytes) is h left stays = record { history = h; left = left; faults = omega (arith, stays.faults); no_failure = λ never. (ap (λ (c : CallCount). none_fails c.fails) stays.calls ∙ never, refl) }
+shows_act before now (act.Closed c) is h left stays = record { history = h; left = left; faults = omega (arith, stays.faults); no_failure = λ never. (ap (λ (c : CallCount). none_fails c.fails) stays.calls ∙ never, refl) }
+shows_act before now (act.Datagram to bytes) is h left stays = record { history = h; left = left; faults = omega (arith, stays.faults); no_failure = λ never. (ap (λ (c : CallCount). none_fails c.fails) stays.calls ∙ never, refl) }
 shows_act before now (act.Listened place) is h left stays = absurd is
 shows_act before now (act.Dialled host port c) is h left stays = absurd is
 shows_act before now (act.Looked host port to) is h left stays = absurd is
@@ -66,13 +67,20 @@ listen_broke fails made place is = rw is refl
 pub listen_went : (fails : List ℕ) (made : ℕ) (place : Place) → is_failing fails (one_more made) ≡ false → breaks_after fails made (act.Listened place) ≡ []
 listen_went fails made place is = rw is refl
 
+-- a call that fails is none of a network whose calls don't
+pub failing_never : (fails : List ℕ) (number : ℕ) → is_failing fails number ≡ true → none_fails fails ≡ true → ⊥
+failing_never [] number is never = absurd cc
+failing_never (f ∷ fails) number is never = absurd cc
+
 -- a call and what follows it are all that is seen of it
 pub shows_call : (before now : NetMemory) (a : Act) (more : List Happening) (faults : ℕ) → GoesOnBy before now a → breaks_after before.calls.fails before.calls.made a ≡ more → left_events now ≡ left_events before
+    → now.calls.fails ≡ before.calls.fails → (none_fails before.calls.fails ≡ true → break_count more ≡ 0)
     → RoseBy (break_count more) before.faults faults → Leaves more (left_events before) (left_events before)
-    → NetShows (net_seen before) (record { history = told_history now; left = left_events now; faults = faults }) (did a ∷ more)
-shows_call before now a more faults h same left rose stays =
+    → NetShows (net_seen before) (record { history = told_history now; left = left_events now; faults = faults; never_fail = none_fails now.calls.fails }) (did a ∷ more)
+shows_call before now a more faults h same left kept unbroken rose stays =
     record {
       history = subst (λ (xs : List Happening). Continues (told_history before) (told_history now) (did a ∷ xs)) same h;
       left = subst (λ (o : Option (List EventWithBytes)). Leaves more (left_events before) o) (sym left) stays;
       faults = rose;
+      no_failure = λ never. (ap none_fails kept ∙ never, unbroken never);
     }

@@ -1,6 +1,6 @@
 -- Laws of the events that a network in memory gives.
 use Rattle.std.proofs.Common.{◌≡◌, ℕ, zero, suc, ◌+◌, ◌-◌, ◌^◌, ◌<◌, ◌≤◌, List, [], ◌∷◌, ◌++◌, length, drop, Some, refl, sym, ap, subst, ◌∙◌, add-one, arith}
-use Rattle.std.specs.Prelude.{slice_get, Option, None, Bool, true, false, IsTrue, ◌↔◌}
+use Rattle.std.specs.Prelude.{slice_get, Option, Bool, true, false, IsTrue, ◌↔◌}
 use Rattle.servient_outside.specs.Ending.{stop_event}
 use Rattle.std.proofs.lemmas.List.{take_at}
 use Rattle.std.proofs.lemmas.Option.{slice_get_within, get_or_from_slice_get}
@@ -17,7 +17,7 @@ use Rattle.servient_outside.specs.declared.net.Act.{Act}
 use Rattle.servient_outside.specs.Order.{Step, asked, acted, steps, made_after, breaks_after, given_after, call_result, made_by, given_by, happened_by}
 use Rattle.servient_outside.proofs.OrderLaws.{steps_asked, steps_acted, made_by-append, given_by-append, happened_by-append}
 use Rattle.std.proofs.lemmas.List.{append-nil}
-use Rattle.servient_outside.specs.Network.{Happening, heard, did, broke, NetCall, dialling, Leaves, byte_count, in_buffer}
+use Rattle.servient_outside.specs.Network.{Happening, heard, did, broke, NetCall, Leaves, byte_count, in_buffer}
 
 -- an event whose bytes are a prefix of the buffer is the one that is in it
 pub in_buffer-prefix : (e : EventWithBytes) (copied rest : List ℕ) → copied ≡ e.bytes → length e.bytes ≡ byte_count e.event.what → in_buffer e.event (copied ++ rest) ≡ e
@@ -53,12 +53,6 @@ left_none all [] given zero x now none =
 pub left_broke : (call : NetCall) (fails : List ℕ) (number : ℕ) (told now : Option (List EventWithBytes)) → is_failing fails number ≡ true → Leaves (broke call ∷ []) (where_none_fails fails told) now
 left_broke call [] number told now c = absurd cc
 left_broke call (f ∷ fails) number told now c = tt
-
--- a call of `dial` that fails leaves the events to come
-pub left_dialling : (left : Option (List EventWithBytes)) → Leaves (broke dialling ∷ []) left left
-left_dialling None = tt
-left_dialling (Some []) = tt
-left_dialling (Some (e ∷ rest)) = (tt, refl)
 
 -- nothing is left past the end
 pub drop_past : (n : ℕ) (xs : List EventWithBytes) → length xs ≤ n → drop n xs ≡ []

@@ -17,13 +17,13 @@ leaves_then (did act ∷ a) b first second third p q = leaves_then a b first sec
 leaves_then (heard e ∷ a) b (Some (x ∷ rest)) second third p q = (p.0, leaves_then a b (Some rest) second third p.1 q)
 leaves_then (heard e ∷ a) b (Some []) second third p q = tt
 leaves_then (heard e ∷ a) b None second third p q = tt
-leaves_then (broke call ∷ a) b (Some (x ∷ rest)) second third p q = (p.0, leaves_then a b (Some (x ∷ rest)) second third p.1 q)
+leaves_then (broke call ∷ a) b (Some (x ∷ rest)) second third p q = absurd p
 leaves_then (broke call ∷ a) b (Some []) second third p q = tt
 leaves_then (broke call ∷ a) b None second third p q = tt
 
 -- nothing happened
 pub net_shows_none : (w : NetSeen) → NetShows w w []
-net_shows_none w = record { history = continues_same w.history; left = refl; faults = omega arith }
+net_shows_none w = record { history = continues_same w.history; left = refl; faults = omega arith; no_failure = λ never. (never, refl) }
 
 -- happenings of one time and then of another
 pub net_shows_then : (w v u : NetSeen) (a b : List Happening) → NetShows w v a → NetShows v u b → NetShows w u (a ++ b)
@@ -31,6 +31,10 @@ net_shows_then w v u a b p q = record {
   history = continues_then w.history v.history u.history a b p.history q.history;
   left = leaves_then a b w.left v.left u.left p.left q.left;
   faults = omega (arith, p.faults, q.faults, break_count-append a b);
+  no_failure = λ never.
+      let first = p.no_failure never in
+      let second = q.no_failure first.0 in
+      (second.0, omega (arith, break_count-append a b, first.1, second.1));
 }
 
 -- a network shows what happens in its order

@@ -1,7 +1,7 @@
 -- The view of a network in memory. It keeps the number of calls of `next` that came before each act, and its happenings
 -- follow from that, its events and the numbers of the calls that fail (Order.antt), because a second list would take
 -- memory. So it records them wherever no act was lost, also where calls fail.
-use Rattle.std.specs.Prelude.{◌≡◌, ◌<◌, ◌+◌, ◌-◌, ◌^◌, ℕ, suc, nat_lt, List, [], ◌∷◌, ◌++◌, ◌⊎◌, Option, Some, None, IsSome, drop, if◌then◌else◌}
+use Rattle.std.specs.Prelude.{◌≡◌, ◌<◌, ◌+◌, ◌-◌, ◌^◌, ℕ, List, [], ◌∷◌, ◌++◌, ◌⊎◌, Option, Some, None, IsSome, drop, if◌then◌else◌}
 use Rattle.coap_msg.specs.declared.endpoint.Endpoint.{Endpoint}
 use Rattle.servient_base.specs.Count.{one_more}
 use Rattle.servient_outside.specs.declared.net.Act.{Act}
@@ -18,7 +18,7 @@ use Rattle.servient_outside.specs.declared.net.Found.TheVariants as found
 use Rattle.servient_outside.specs.declared.calls.CallCount.{CallCount}
 use Rattle.servient_outside.specs.declared.net_memory.NetMemory.{NetMemory}
 use Rattle.servient_outside.specs.Told.{told_at_zero, Continues}
-use Rattle.servient_outside.specs.CallCount.{is_failing, no_calls, where_none_fails}
+use Rattle.servient_outside.specs.CallCount.{is_failing, no_calls, none_fails, where_none_fails}
 use Rattle.servient_outside.specs.Network.{in_buffer, Happening, did, NetSeen}
 use Rattle.servient_outside.specs.Order.{steps, happened_by, breaks_after}
 use Rattle.servient_outside.specs.Ending.{last_moment, stop_event, with_stop}
@@ -38,10 +38,6 @@ stop_moment_of n = n.stop_moment
 -- the Stop with its bytes, which are none
 abbrev pub stop_of : NetMemory → EventWithBytes
 stop_of n = record { event = stop_event (stop_moment_of n); bytes = [] }
-
--- the number of connections that were dialled
-abbrev pub connected_count : NetMemory → ℕ
-connected_count n = n.connected
 
 -- the acts that were kept
 abbrev pub kept_acts : NetMemory → List Act
@@ -68,14 +64,13 @@ fault_count n = n.faults
 
 -- the view of it
 abbrev pub net_seen : NetMemory → NetSeen
-net_seen n = record { history = told_history n; left = left_events n; faults = fault_count n }
+net_seen n = record { history = told_history n; left = left_events n; faults = fault_count n; never_fail = none_fails n.calls.fails }
 
 -- Nothing was done yet: it has these events to give, and these calls are to fail.
 pub record IsFresh (n : NetMemory) (events : List EventWithBytes) (fails : List ℕ) : Type 0 where
   pub rest : rest_of n ≡ with_stop events
   pub stop_moment : stop_moment_of n ≡ last_moment events
   pub calls : calls_of n ≡ no_calls fails
-  pub connected : connected_count n ≡ 0
   pub faults : fault_count n ≡ 0
   pub lost : lost_acts n ≡ 0
 
@@ -109,7 +104,6 @@ pub record KeepsRest (before now : NetMemory) : Type 0 where
 pub record KeepsEvents (before now : NetMemory) : Type 0 where
   pub rest : KeepsRest before now
   pub calls : calls_of now ≡ calls_of before
-  pub connected : connected_count now ≡ connected_count before
   pub faults : fault_count now ≡ fault_count before
 
 -- The act is kept after the others; or keeping it is out of memory, and it is counted.
@@ -147,16 +141,9 @@ GoesOnBy before now act =
 abbrev pub listen_answer : CallCount → Listened
 listen_answer calls = if is_failing calls.fails (one_more calls.made) then listened.Failed else listened.Ready
 
--- the next of 64 numbers, how many were dialled before, unless the next call fails; nothing comes on it
-abbrev pub dial_answer : CallCount → ℕ → Dialled
-dial_answer calls connected =
-    if is_failing calls.fails (one_more calls.made) then dialled.Failed else if nat_lt connected 64 then dialled.Connected connected else dialled.Failed
-
--- the number of connections that were dialled after this answer
-abbrev pub connected_after : Dialled → ℕ → ℕ
-connected_after (dialled.Connected c) connected = suc connected
-connected_after dialled.Failed connected = connected
-connected_after dialled.NoMemory connected = connected
+-- the connection 0, each time, unless the next call fails; nothing comes on it but what is among the events
+abbrev pub dial_answer : CallCount → Dialled
+dial_answer calls = if is_failing calls.fails (one_more calls.made) then dialled.Failed else dialled.Connected 0
 
 -- the connection in an answer
 abbrev pub dialled_in : Dialled → Option ℕ
@@ -164,10 +151,10 @@ dialled_in (dialled.Connected c) = Some c
 dialled_in dialled.Failed = None
 dialled_in dialled.NoMemory = None
 
--- the address 1, unless the next call fails
+-- the host 2 and the port that was asked, each time, unless the next call fails
 abbrev pub find_answer : CallCount → ℕ → Found
 find_answer calls port =
-    if is_failing calls.fails (one_more calls.made) then found.Failed else found.At (record { host = 1; port = port })
+    if is_failing calls.fails (one_more calls.made) then found.Failed else found.At (record { host = 2; port = port })
 
 -- the endpoint in an answer
 abbrev pub looked_in : Found → Option Endpoint

@@ -1,5 +1,5 @@
 -- The view of a network: the events that may come, the happenings, and the part of them that it shows.
-use Rattle.std.specs.Prelude.{◌≡◌, ◌≤◌, ◌<◌, ◌^◌, ℕ, suc, List, [], ◌∷◌, Option, Some, None, take, length}
+use Rattle.std.specs.Prelude.{◌≡◌, ◌≤◌, ◌<◌, ◌^◌, ℕ, suc, Bool, true, false, List, [], ◌∷◌, Option, Some, None, take, length}
 use Rattle.std.specs.List.{filter_map}
 use Rattle.servient_base.specs.Count.{RoseBy}
 use Rattle.servient_outside.specs.declared.net.What.{What}
@@ -101,37 +101,38 @@ break_count (broke call ∷ happened) = suc (break_count happened)
 -- ---- what a network shows
 
 -- The view of a network at one time: all happenings so far, in the order in which they came about, where the network
--- records them; the events still to come, where they are known; and the number of its failures.
+-- records them; the events still to come, where they are known; the number of its failures; and whether no call of it
+-- fails from now on.
 pub record NetSeen : Type 0 where
   pub history : Option (List Happening)
   pub left : Option (List EventWithBytes)
   pub faults : ℕ
-
--- the call may fail while events are known to come: only dialling, where no number is free
-abbrev pub MayStillFail : NetCall → Type 0
-MayStillFail next_event = ⊥
-MayStillFail listening = ⊥
-MayStillFail dialling = Unit {0}
-MayStillFail looking = ⊥
+  pub never_fail : Bool
 
 -- As these happen, the events to come go from one list to another: as long as some are known to come, each event given
--- is the first of them, and nothing fails but what may still fail. Once none is, nothing more is known.
+-- is the first of them, and nothing fails. Once none is, nothing more is known.
 abbrev pub Leaves : List Happening → Option (List EventWithBytes) → Option (List EventWithBytes) → Type 0
 Leaves [] before now = now ≡ before
 Leaves (did act ∷ happened) before now = Leaves happened before now
 Leaves (heard e ∷ happened) (Some (first ∷ rest)) now = (e ≡ first) × Leaves happened (Some rest) now
 Leaves (heard e ∷ happened) (Some []) now = Unit {0}
 Leaves (heard e ∷ happened) None now = Unit {0}
-Leaves (broke call ∷ happened) (Some (first ∷ rest)) now = MayStillFail call × Leaves happened (Some (first ∷ rest)) now
+Leaves (broke call ∷ happened) (Some (first ∷ rest)) now = ⊥
 Leaves (broke call ∷ happened) (Some []) now = Unit {0}
 Leaves (broke call ∷ happened) None now = Unit {0}
 
+-- Where no call fails from now on, none of these failed, and none fails later.
+abbrev pub NoCallFailed : NetSeen → NetSeen → List Happening → Type 0
+NoCallFailed before now happened =
+    before.never_fail ≡ true → (now.never_fail ≡ true) × (break_count happened ≡ 0)
+
 -- From one time to another this happened and nothing else: it comes after what was recorded before; the events to come
--- are those that are left by it; and each failure was counted.
+-- are those that are left by it; each failure was counted; and there is none where no call fails.
 pub record NetShows (before now : NetSeen) (happened : List Happening) : Type 0 where
   pub history : Continues before.history now.history happened
   pub left : Leaves happened before.left now.left
   pub faults : RoseBy (break_count happened) before.faults now.faults
+  pub no_failure : NoCallFailed before now happened
 
 -- the happening of a call of `next`
 abbrev pub came : Next → List ℕ → Happening
@@ -169,4 +170,4 @@ finds_as host port found.NoMemory = did (act.Looked host port None) ∷ []
 
 -- the view of a network that records nothing but its count of faults, as one over sockets
 abbrev pub counted_only : ℕ → NetSeen
-counted_only faults = record { history = None; left = None; faults = faults }
+counted_only faults = record { history = None; left = None; faults = faults; never_fail = false }

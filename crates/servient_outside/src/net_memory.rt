@@ -16,9 +16,15 @@ use servient_base::{ConnectionId, NoMemory};
 use std::alloc::Global;
 use wot_json::Bytes;
 
+/// The connection that each call of `dial` gives.
+const DIALLED: ConnectionId = 0;
+
+/// The host at which each call of `find` finds.
+const FOUND: u128 = 2;
+
 /// A network in memory. It gives its events in order, and after the last one a `Stop` at the last event's moment, or at
-/// 0 where there is none. From then on it gives that `Stop` again and again. The connections that are dialled have the
-/// numbers 0, 1, .. with no regard to what its events open, and every host is found at the address 1.
+/// 0 where there is none. From then on it gives that `Stop` again and again. Whatever is dialled is the connection 0, and
+/// every host is found as the host 2, with no regard to what its events open.
 #[derive(Drop)]
 pub struct NetMemory {
     alloc: Global,
@@ -28,15 +34,12 @@ pub struct NetMemory {
     given: usize,
     stop_moment: u64,
     calls: CallCount,
-    // The number of connections that were dialled.
-    connected: ConnectionId,
     // The number of calls of `next` that came once the number of those after the last act was at its last value.
     uncounted: u64,
     faults: u64,
     log: ActLog,
     ghost moment_in_bounds: { stop_moment ≤ 10 ^ 15 },
     ghost given_in_bounds: { given ≤ length events },
-    ghost connected_in_bounds: { connected ≤ 64 },
     ghost since_in_bounds: { calls.fails ≡ [] → given < length events → log.since ≤ given },
     ghost made_by_steps: { uncounted ≡ 0 → log.lost ≡ 0
         → calls.made ≡ made_by (steps log.gaps.items log.acts.items log.since) 0 },
@@ -72,7 +75,7 @@ impl NetMemory {
     ghost use Rattle.servient_outside.specs.Network.{acts_in};
     ghost use Rattle.servient_outside.specs.NetMemory.{kept_acts, lost_acts, left_events, told_history, IsFresh};
     ghost use Rattle.servient_outside.specs.CallCount.{after_call};
-    ghost use Rattle.servient_outside.specs.NetMemory.{calls_of, connected_count, fault_count, IsNoCall, IsCall};
+    ghost use Rattle.servient_outside.specs.NetMemory.{calls_of, fault_count, IsNoCall, IsCall};
     ghost use Rattle.servient_outside.specs.NetMemory.{GoesOnBy, KeepsEvents, KeepsOrCounts, KeepsRest};
 
     /// A network that gives these events, and whose calls of `listen`, `next`, `dial` and `find` of these numbers fail.
@@ -98,7 +101,6 @@ impl NetMemory {
             given: 0,
             stop_moment,
             calls: CallCount { fails, made: 0 },
-            connected: 0,
             uncounted: 0,
             faults: 0,
             log: ActLog::new(alloc),
@@ -141,7 +143,6 @@ impl NetMemory {
         ensures left { left_events self.new ≡ left_events self.old }
         ensures rest_stays { KeepsRest self.old self.new }
         ensures calls { calls_of self.new ≡ after_call (calls_of self.old) }
-        ensures connected { connected_count self.new ≡ connected_count self.old }
         ensures faults { fault_count self.new ≡ fault_count self.old }
     {
         self.calls.made = self.calls.made.saturating_add(1);
@@ -155,9 +156,9 @@ impl Net for NetMemory {
     ghost use Rattle.servient_outside.specs.Network.{break_count, NetShows, did, came, IsAnswer, IsConnection};
     ghost use Rattle.servient_outside.specs.Network.{listens_as, dials_as, finds_as};
     ghost use Rattle.servient_outside.specs.CallCount.{FailsNext, after_call};
-    ghost use Rattle.servient_outside.specs.NetMemory.{calls_of, rest_of, stop_moment_of, fault_count, connected_count, net_seen};
+    ghost use Rattle.servient_outside.specs.NetMemory.{calls_of, rest_of, stop_moment_of, fault_count, net_seen};
     ghost use Rattle.servient_outside.specs.NetMemory.{TakesFrom, GoesOnTelling, KeepsActs, KeepsEvents, KeepsRest, KeepsOrCounts};
-    ghost use Rattle.servient_outside.specs.NetMemory.{listen_answer, dial_answer, find_answer, connected_after, dialled_in, looked_in};
+    ghost use Rattle.servient_outside.specs.NetMemory.{listen_answer, dial_answer, find_answer, dialled_in, looked_in};
 
     ghost seen = { net_seen };
 
@@ -252,31 +253,28 @@ impl Net for NetMemory {
         self.keep(acts::datagram(self.alloc, to, bytes));
     }
 
-    /// Failed where the call's number is in the list that `new` took, and where 64 were dialled before.
+    /// Failed where the call's number is in the list that `new` took, else the connection 0.
     fn dial(&mut self, alloc: Global, host: &str, port: u16) -> Dialled
         ensures answer { IsConnection result }
         ensures shows { NetShows (net_seen self.old) (net_seen self.new) (dials_as host.now port result) }
 
-        ensures answers { result ≡ dial_answer (calls_of self.old) (connected_count self.old) }
-        ensures connected { connected_count self.new ≡ connected_after result (connected_count self.old) }
+        ensures answers { result ≡ dial_answer (calls_of self.old) }
         ensures calls { calls_of self.new ≡ after_call (calls_of self.old) }
         ensures faults { fault_count self.new
             ≡ raised (break_count (dials_as host.now port result)) (fault_count self.old) }
         ensures kept_or_counted { KeepsOrCounts self.old self.new (Act.Dialled host.now port (dialled_in result)) }
         ensures rest_stays { KeepsRest self.old self.new }
     {
-        if self.calls.is_next_failing() || self.connected >= 64 {
+        if self.calls.is_next_failing() {
             self.keep_call(acts::dialled(alloc, host, port, None));
             self.faults = self.faults.saturating_add(1);
             return Dialled::Failed;
         }
-        let c = self.connected;
-        self.keep_call(acts::dialled(alloc, host, port, Some(c)));
-        self.connected = c + 1;
-        Dialled::Connected(c)
+        self.keep_call(acts::dialled(alloc, host, port, Some(DIALLED)));
+        Dialled::Connected(DIALLED)
     }
 
-    /// Failed where the call's number is in the list that `new` took.
+    /// Failed where the call's number is in the list that `new` took, else the host 2 and that port.
     fn find(&mut self, alloc: Global, host: &str, port: u16) -> Found
         ensures shows { NetShows (net_seen self.old) (net_seen self.new) (finds_as host.now port result) }
 
@@ -292,7 +290,7 @@ impl Net for NetMemory {
             self.faults = self.faults.saturating_add(1);
             return Found::Failed;
         }
-        let to = Endpoint { host: 1, port };
+        let to = Endpoint { host: FOUND, port };
         self.keep_call(acts::looked(alloc, host, port, Some(to)));
         Found::At(to)
     }

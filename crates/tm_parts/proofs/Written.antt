@@ -9,7 +9,7 @@ use Rattle.wot_json.specs.Pointer.{IsPointer, is_pointer}
 use Rattle.wot_json.proofs.PointerTokens.{is_pointer-pointer, is_pointer-other}
 use Rattle.tm_parts.specs.References.{pointer_written}
 use Rattle.tm_parts.specs.declared.reference.RefFault.{RefFault}
-use Rattle.tm_parts.specs.declared.reference.RefFault.TheVariants.{NoMemory}
+use Rattle.tm_parts.specs.declared.reference.RefFault.TheVariants.{BadRef, NoMemory}
 
 -- the pointer that a fragment writes follows from two tests of its decoded bytes
 by_tests : (fragment : List ℕ) (text pointer : Bool) → is_utf8 (percent_decode fragment) ≡ text → is_pointer (percent_decode fragment) ≡ pointer
@@ -36,3 +36,8 @@ writes_no_text fragment fault (inr no_text) = elim (cases_Bool (is_utf8 (percent
   | inl text ↦ absurd (no_text (IsUtf8-from_is_utf8 (percent_decode fragment) text))
   | inr fails ↦ inr (ap (λ (b : Bool). cond (b && is_pointer (percent_decode fragment)) (Some (percent_decode fragment)) None) fails)
 ]
+
+-- and where that wasn't for want of memory, the fragment writes none
+pub none_written : (fragment : List ℕ) (fault : RefFault) → (fault ≡ NoMemory) ⊎ (pointer_written fragment ≡ None) → fault ≡ BadRef → pointer_written fragment ≡ None
+none_written fragment fault (inl memory) bad = let never : NoMemory ≡ BadRef = sym memory ∙ bad in absurd cc
+none_written fragment fault (inr none) bad = none

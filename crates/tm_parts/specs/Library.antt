@@ -5,7 +5,7 @@ use Rattle.std.specs.Cmp.Lexicographic.{slice_cmp}
 use Rattle.wot_json.specs.Tree.{Json, object}
 use Rattle.wot_json.specs.Lookup.{member_list, member_named}
 use Rattle.wot_json.specs.Texts.{has_text}
-use Rattle.url.specs.Parser.{parse_url}
+use Rattle.url.specs.Parser.{parse_url, IsOutOfRoom}
 use Rattle.tm_parts.specs.declared.library.AddFault.{AddFault}
 use Rattle.tm_parts.specs.declared.library.AddFault.TheVariants.{BadUrl, Twice, NotModel, NoMemory}
 
@@ -22,6 +22,10 @@ with_model url model (m ∷ ms) = match_ordering (slice_cmp nat_cmp url m.0) ((u
 abbrev pub IsModelUrl : List ℕ → Type 0
 IsModelUrl url = MatchResult (parse_url None url) (λ parts. parts.fragment ≡ None) (λ fault. ⊥)
 
+-- A model can't be named by this text: it is no URL, and not because there was no room for one, or a URL with a fragment.
+abbrev pub IsNoModelUrl : List ℕ → Type 0
+IsNoModelUrl url = MatchResult (parse_url None url) (λ parts. ¬ (parts.fragment ≡ None)) (λ fault. ¬ (IsOutOfRoom fault))
+
 -- the type that says that an object is a Thing Model (Thing Description 1.1, section "Thing Model")
 abbrev pub thing_model : List ℕ
 thing_model = codes "tm:ThingModel"
@@ -33,7 +37,7 @@ is_thing_model v = false
 
 -- the reason for which a library takes no model: the first of these that holds
 abbrev pub HasAddFault : AddFault → List ℕ → Json → Models → Type 0
-HasAddFault BadUrl url model models = ¬ (IsModelUrl url)
+HasAddFault BadUrl url model models = IsNoModelUrl url
 HasAddFault Twice url model models = IsModelUrl url × IsSome (member_named url models)
 HasAddFault NotModel url model models = IsModelUrl url × (member_named url models ≡ None) × (is_thing_model model ≡ false)
 HasAddFault NoMemory url model models = Unit {0}

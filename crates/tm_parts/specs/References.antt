@@ -1,12 +1,12 @@
 -- References from one Thing Model to a part of another, the values of `tm:ref` (Thing Description 1.1, section "Thing
 -- Model"): the location of a model, `#`, and a JSON Pointer (RFC 6901) as the fragment.
-use Rattle.std.specs.Prelude.{◌==◌, ◌&&◌, nat_lt, ℕ, Bool, List, [], ◌∷◌, length, Option, Some, None, option_map, option_and_then, if◌then◌else◌}
+use Rattle.std.specs.Prelude.{◌≡◌, ◌==◌, ◌&&◌, ◌⊎◌, nat_lt, ℕ, Bool, false, List, [], ◌∷◌, length, Option, Some, None, option_map, option_and_then, if◌then◌else◌}
 use Rattle.std.specs.List.{position_or_len, before_first, after_first}
 use Rattle.std.specs.Result.{result_ok}
 use Rattle.std.specs.Str.{is_utf8}
 use Rattle.percent_encoding.specs.Percent.{percent_decode}
 use Rattle.url.specs.Parts.{serialize}
-use Rattle.servient_base.specs.Location.{joined_url}
+use Rattle.servient_base.specs.Location.{joined_url, IsRefused}
 use Rattle.wot_json.specs.Pointer.{is_pointer}
 use Rattle.tm_parts.specs.declared.reference.Reference.{Reference}
 
@@ -50,3 +50,14 @@ reference_target from text =
     if is_marked text
     then option_and_then (λ url. option_map (reference url) (pointer_written (fragment_of text))) (location_target from (location_of text))
     else None
+
+-- the location leads to no URL, and not because there was no room for one
+abbrev pub IsLostLocation : List ℕ → List ℕ → Type 0
+IsLostLocation from [] = ⊥
+IsLostLocation from (b ∷ bs) = IsRefused (joined_url (Some from) (b ∷ bs))
+
+-- The text refers to nothing from the model of this URL: it has no `#`, its fragment writes no pointer, or its location
+-- leads to no URL. No room for a URL is none of these.
+abbrev pub LeadsNowhere : List ℕ → List ℕ → Type 0
+LeadsNowhere from text =
+    (is_marked text ≡ false) ⊎ (pointer_written (fragment_of text) ≡ None) ⊎ IsLostLocation from (location_of text)

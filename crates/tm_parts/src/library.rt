@@ -4,7 +4,7 @@ ghost use Rattle.std.specs.Prelude.{◌≡◌, ◌⊎◌, ℕ, List, [], if◌th
 ghost use Rattle.std.specs.Str.{bytes_eq};
 ghost use Rattle.wot_json.specs.Meaning.{json_of};
 ghost use Rattle.wot_json.specs.Lookup.{member_named};
-ghost use Rattle.tm_parts.specs.Library.{with_model, IsModelUrl, HasAddFault, MayAdd};
+ghost use Rattle.tm_parts.specs.Library.{with_model, IsModelUrl, IsNoModelUrl, HasAddFault, MayAdd};
 ghost use Rattle.tm_parts.specs.Library as spec;
 ghost use Rattle.tm_parts.specs.Kept.{kept_models};
 
@@ -140,7 +140,7 @@ impl Library {
 /// Judges whether a text may name a model.
 fn judge_url(alloc: Global, url: &str) -> Result<(), AddFault>
     ensures ok { OnOk result (IsModelUrl url.now) }
-    ensures fault { IfErr result (λ e. (e ≡ AddFault.NoMemory) ⊎ ((e ≡ AddFault.BadUrl) × ¬ (IsModelUrl url.now))) }
+    ensures fault { IfErr result (λ e. (e ≡ AddFault.NoMemory) ⊎ ((e ≡ AddFault.BadUrl) × IsNoModelUrl url.now)) }
 {
     match Url::parse(alloc, url) {
         Ok(url) if url.fragment().is_none() => Ok(()),

@@ -2,7 +2,7 @@
 
 ghost use Rattle.std.specs.Prelude.{◌≡◌, ◌⊎◌, Some, None, Ok, IfOk, IfErr, MatchOption};
 ghost use Rattle.servient_base.specs.Location.{joined_url, IsRefused};
-ghost use Rattle.tm_parts.specs.References.{location_target, reference_target};
+ghost use Rattle.tm_parts.specs.References.{location_target, reference_target, IsLostLocation, LeadsNowhere};
 
 use crate::reference::{RefFault, Reference, written_pointer};
 use servient_base::{NoMemory, join, join_to};
@@ -62,6 +62,7 @@ impl Location {
     pub fn target(&self, alloc: Global, text: &str) -> Result<Reference, RefFault>
         ensures ok { IfOk result (λ r. reference_target self.now text.now ≡ Some r) }
         ensures fault { IfErr result (λ e. (e ≡ RefFault.NoMemory) ⊎ (reference_target self.now text.now ≡ None)) }
+        ensures refused { IfErr result (λ e. e ≡ RefFault.BadRef → LeadsNowhere self.now text.now) }
     {
         match text.split_once('#') {
             None => Err(RefFault::BadRef),
@@ -77,6 +78,7 @@ impl Location {
     fn url_of(&self, alloc: Global, location: &str) -> Result<Text, RefFault>
         ensures ok { IfOk result (λ u. location_target self.now location.now ≡ Some u) }
         ensures fault { IfErr result (λ e. (e ≡ RefFault.NoMemory) ⊎ (location_target self.now location.now ≡ None)) }
+        ensures refused { IfErr result (λ e. e ≡ RefFault.BadRef → IsLostLocation self.now location.now) }
     {
         if location.is_empty() {
             return Ok(Text::copy_of(alloc, self.as_str())?);

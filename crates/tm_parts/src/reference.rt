@@ -3,7 +3,7 @@
 ghost use Rattle.std.specs.Prelude.{◌≡◌, ◌⊎◌, Some, None, IfOk, IfErr};
 ghost use Rattle.std.specs.Str.{IsUtf8};
 ghost use Rattle.percent_encoding.specs.Percent as percent;
-ghost use Rattle.tm_parts.specs.References.{pointer_written, reference_target};
+ghost use Rattle.tm_parts.specs.References.{pointer_written, reference_target, LeadsNowhere};
 
 use crate::location::Location;
 use percent_encoding::{DecodeError, percent_decode};
@@ -50,6 +50,7 @@ impl From<AllocError> for RefFault {
 pub fn target(alloc: Global, from: &str, text: &str) -> Result<Reference, RefFault>
     ensures ok { IfOk result (λ r. reference_target from.now text.now ≡ Some r) }
     ensures fault { IfErr result (λ e. (e ≡ RefFault.NoMemory) ⊎ (reference_target from.now text.now ≡ None)) }
+    ensures refused { IfErr result (λ e. e ≡ RefFault.BadRef → LeadsNowhere from.now text.now) }
 {
     Location::new(alloc, from)?.target(alloc, text)
 }
@@ -58,6 +59,7 @@ pub fn target(alloc: Global, from: &str, text: &str) -> Result<Reference, RefFau
 pub(crate) fn written_pointer(alloc: Global, fragment: &str) -> Result<Text, RefFault>
     ensures ok { IfOk result (λ p. pointer_written fragment.now ≡ Some p) }
     ensures fault { IfErr result (λ e. (e ≡ RefFault.NoMemory) ⊎ (pointer_written fragment.now ≡ None)) }
+    ensures refused { IfErr result (λ e. e ≡ RefFault.BadRef → pointer_written fragment.now ≡ None) }
 {
     let decoded = decoded_text(alloc, fragment)?;
     // Whether a text is a pointer doesn't depend on the tree.

@@ -12,7 +12,6 @@ invariant_of-self c =
     record {
       moment_in_bounds = n.moment_in_bounds;
       given_in_bounds = n.given_in_bounds;
-      connected_in_bounds = n.connected_in_bounds;
       since_in_bounds = λ none within. elim kept [
         | inl k ↦ omega (arith, k.2.since)
         | inr l ↦ omega (arith, n.since_in_bounds none within, l.since)
@@ -48,6 +47,5 @@ returns-clause-events_stay c =
     record {
       rest = record { rest = refl; stop_moment = refl; told = λ same was. told_still (n.uncounted + n.log.lost) _ _ _ (ap (λ (x : ℕ). n.uncounted + x) same) was };
       calls = refl;
-      connected = refl;
       faults = refl;
     }

@@ -108,7 +108,7 @@ heard_next (broke call ∷ happened) [] now leaves = nothing_next (events_in hap
     nothing_next : (took : List EventWithBytes) → AreNext [] took
     nothing_next [] = tt
     nothing_next (e ∷ took) = tt
-heard_next (broke call ∷ happened) (c ∷ coming) now leaves = heard_next happened (c ∷ coming) now leaves.1
+heard_next (broke call ∷ happened) (c ∷ coming) now leaves = absurd leaves
 
 -- as long as no more were heard than were to come, what is left is known
 left_known : (happened : List Happening) (coming : List EventWithBytes) (now : Option (List EventWithBytes)) → Leaves happened (Some coming) now → break_count happened ≡ 0 → length (events_in happened) ≤ length coming → IsSome now
@@ -121,7 +121,7 @@ left_known (broke call ∷ happened) coming now leaves unbroken few = absurd (om
 -- a network that knows what is to come doesn't break before that
 breaks_after : (happened : List Happening) (coming : List EventWithBytes) (now : Option (List EventWithBytes)) → Leaves (happened ++ broke next_event ∷ []) (Some coming) now → break_count happened ≡ 0 → length (events_in happened) < length coming → ⊥
 breaks_after [] [] now leaves unbroken few = omega arith
-breaks_after [] (c ∷ coming) now leaves unbroken few = leaves.0
+breaks_after [] (c ∷ coming) now leaves unbroken few = leaves
 breaks_after (did act ∷ happened) coming now leaves unbroken few = breaks_after happened coming now leaves unbroken few
 breaks_after (heard e ∷ happened) [] now leaves unbroken few = omega arith
 breaks_after (heard e ∷ happened) (c ∷ coming) now leaves unbroken few = breaks_after happened coming now leaves.1 unbroken (omega arith)
@@ -160,7 +160,7 @@ before_break (broke other ∷ happened) call [] now leaves = none_next (events_i
     none_next : (took : List EventWithBytes) → AreNext [] took
     none_next [] = tt
     none_next (e ∷ took) = tt
-before_break (broke other ∷ happened) call (c ∷ coming) now leaves = before_break happened call (c ∷ coming) now leaves.1
+before_break (broke other ∷ happened) call (c ∷ coming) now leaves = absurd leaves
 
 -- those that are next of a list are next of its first part
 next_part : (coming rest took : List EventWithBytes) → AreNext (coming ++ rest) took → AreNext coming took

@@ -34,3 +34,8 @@ mod InMemoryLaws
 mod StopLaws
 mod FailureLaws
 mod SectionRuns
+mod DirectoryAnswers
+mod DirectoryTimed
+mod DirectoryUntimed
+mod DirectorySteps
+mod DirectoryLaws

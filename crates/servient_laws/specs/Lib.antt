@@ -10,3 +10,4 @@ pub mod Transfers
 pub mod Stops
 pub mod Failures
 pub mod Sections
+pub mod DirectoryRuns

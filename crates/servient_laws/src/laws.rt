@@ -2,6 +2,7 @@
 
 ghost use Rattle.servient_laws.specs.Calls.{CallsAreFit};
 ghost use Rattle.servient_laws.specs.Determined.{RunsAreDetermined};
+ghost use Rattle.servient_laws.specs.DirectoryRuns.{DirectoryGivesOutWhatStands};
 ghost use Rattle.servient_laws.specs.Failures.{FailuresAreCounted};
 ghost use Rattle.servient_laws.specs.InMemory.{NothingFailsInMemory};
 ghost use Rattle.servient_laws.specs.Memory.{MemoryIsSeen};
@@ -107,4 +108,11 @@ pub fn later_blocks_are_of_one_act()
 /// of one endpoint, code and path; each before it, and each that isn't taken, leads to none (RFC 7959, section 2.5).
 pub fn joined_bodies_act_once()
     ensures { JoinedBodiesActOnce }
+{}
+
+/// Over a whole run each request to the directory is answered by what stands at its moment, by the changes that the requests
+/// before it made: one for an entry gets the entry as it stands, one for the list the part of all that it asks for, and the
+/// directory is full, but for want of memory, exactly where no earlier fault holds, 4,096 entries stand, and the id is new.
+pub fn directory_gives_out_what_stands()
+    ensures { DirectoryGivesOutWhatStands }
 {}

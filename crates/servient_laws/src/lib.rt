@@ -21,14 +21,16 @@
 //! - Nothing before the word: no event is taken by a command that didn't serve, `faults_take_no_event`, and no handler
 //!   is called by one that calls none, `handlers_stay`.
 //! - A failure has a cause: a file or the network failed where the status says so, `failures_are_counted`.
-//! - Memory alone: over files and an output in memory nothing fails but memory, `nothing_fails_in_memory`.
+//! - Memory alone: over files, a network and an output in memory nothing fails but memory, `nothing_fails_in_memory`.
+//! - Over a whole run the directory gives out exactly what stands: `directory_gives_out_what_stands`.
 #![tactic(auto)]
 
 mod laws;
 
 pub use laws::{
-    calls_are_fit, failures_are_counted, faults_take_no_event, full_tables_act_on_nothing,
-    handlers_stay, joined_bodies_act_once, later_blocks_are_of_one_act, memory_is_seen,
-    nothing_fails_in_memory, payloads_are_of_outcomes, repeats_act_once, requests_act_once,
-    requests_are_spoken, runs_are_determined, sections_keep_promises, stops_are_counted,
+    calls_are_fit, directory_gives_out_what_stands, failures_are_counted, faults_take_no_event,
+    full_tables_act_on_nothing, handlers_stay, joined_bodies_act_once, later_blocks_are_of_one_act,
+    memory_is_seen, nothing_fails_in_memory, payloads_are_of_outcomes, repeats_act_once,
+    requests_act_once, requests_are_spoken, runs_are_determined, sections_keep_promises,
+    stops_are_counted,
 };

@@ -66,17 +66,17 @@ named_again now later id r after =
 
 -- ---- the state follows the history
 
-abbrev description_of : Option Entry → Option Json
+abbrev pub description_of : Option Entry → Option Json
 description_of e = option_map (λ x. x.description) e
 
-abbrev times_in : Option Entry → Option Times
+abbrev pub times_in : Option Entry → Option Times
 times_in e = option_map (λ x. x.times) e
 
-record Follows (epoch last : ℕ) (history : History) (r : Registered) : Type 0 where
-  epoch_is : r.epoch ≡ epoch
-  ordered : AreOrdered r.contents.entries
-  times_are : (now : ℕ) → last ≤ now → (id : List ℕ) → times_of id (standing now r).times ≡ times_in (still now (last_entry id history))
-  named_are : (now : ℕ) → last ≤ now → (id : List ℕ) → member_named id (standing now r).contents.entries ≡ description_of (still now (last_entry id history))
+pub record Follows (epoch last : ℕ) (history : History) (r : Registered) : Type 0 where
+  pub epoch_is : r.epoch ≡ epoch
+  pub ordered : AreOrdered r.contents.entries
+  pub times_are : (now : ℕ) → last ≤ now → (id : List ℕ) → times_of id (standing now r).times ≡ times_in (still now (last_entry id history))
+  pub named_are : (now : ℕ) → last ≤ now → (id : List ℕ) → member_named id (standing now r).contents.entries ≡ description_of (still now (last_entry id history))
 
 follows_first : (epoch : ℕ) → Follows epoch 0 [] (empty_registry epoch)
 follows_first epoch = record {
@@ -247,7 +247,7 @@ follows_call epoch last now before made r after from f (removes id done is) =
 follows_call epoch last now before made r after from f (leaves same is) =
     moved epoch now before (made ++ before) (standing now r) after (ap (λ (m : History). m ++ before) is) same (follows_left epoch last now before r from f)
 
-follows : (epoch last : ℕ) (history : History) (r : Registered) → Comes epoch last history r → Follows epoch last history r
+pub follows : (epoch last : ℕ) (history : History) (r : Registered) → Comes epoch last history r → Follows epoch last history r
 follows epoch _ _ _ (begins r is) = subst (λ (x : Registered). Follows epoch 0 [] x) (sym is) (follows_first epoch)
 follows epoch _ _ _ (goes_on last now before made r after comes from does) =
     follows_call epoch last now before made r after from (follows epoch last before r comes) does

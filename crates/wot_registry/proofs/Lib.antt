@@ -7,8 +7,8 @@ mod Names
 mod KeptTimes
 mod Expiring
 mod Due
-mod Standing
-mod HistoryLaws
-mod FullLaws
+pub mod Standing
+pub mod HistoryLaws
+pub mod FullLaws
 mod CallLaws
 mod Listed

@@ -1,28 +1,18 @@
 -- The answers of the directory to one request, apart from its entries.
-use Rattle.std.proofs.Common.{arith, ◌≡◌, ◌≢◌, ◌≤◌, ℕ, List, [], ◌∷◌, ◌++◌, length, refl, sym, ap, subst, ◌∙◌, inl, inr, Bool, true, false, cond}
-use Rattle.std.specs.Prelude.{◌↔◌, ◌⊎◌, ◌<◌, Option, Some, None, IsSome, option_map, slice_get, Result, Ok, Err}
-use Rattle.std.specs.Str.{bytes_eq}
+use Rattle.std.proofs.Common.{arith, ◌≡◌, ◌≢◌, ◌≤◌, ℕ, List, [], ◌∷◌, ◌++◌, refl, sym, ap, subst, ◌∙◌, inl, inr, Bool, true, false, cond}
+use Rattle.std.specs.Prelude.{◌↔◌, ◌⊎◌, Option, Some, None}
 use Rattle.wot_json.specs.Tree.{Json, AreOrdered}
 use Rattle.wot_json.specs.Lookup.{member_named}
-use Rattle.wot_json.specs.Merge.{merge, with_member, without_member}
 use Rattle.wot_json.specs.Reading.{tree_of}
-use Rattle.wot_terms.specs.Faults.{faults_of, IsValid}
-use Rattle.wot_terms.specs.declared.fault.TdFault.{TdFault}
-use Rattle.wot_directory.specs.Contents.{Contents, Entries, most_entries}
-use Rattle.wot_directory.specs.Directory.{HasRoom, IsFirstFault, HasPutFault, HasCreateFault, HasPatchFault, HasRemoveFault}
+use Rattle.wot_directory.specs.Contents.{Contents, Entries}
 use Rattle.wot_directory.specs.declared.fault.DirFault.{DirFault}
 use Rattle.wot_directory.specs.declared.fault.DirFault.TheVariants.{NotFound, Invalid, IdDiffers, HasId, Full, NoMemory}
-use Rattle.wot_directory.proofs.EntryLaws.{named_with, named_without}
 use Rattle.wot_registry.specs.declared.fault.RegFault.{RegFault}
 use Rattle.wot_registry.specs.declared.fault.RegFault.TheVariants.{Ttl, Directory}
-use Rattle.wot_registry.specs.Times.{Times, times_of}
-use Rattle.wot_registry.specs.Registration.{asked_ttl, with_ttl, shown as with_registration}
-use Rattle.wot_registry.specs.Registry.{Registered, standing, own_ttl, HoldsPatched, IsPutFault, IsCreateFault, IsPatchFault, IsRemoveFault, shown_under, shown_entries}
+use Rattle.wot_registry.specs.Registry.{Registered}
 use Rattle.wot_registry.specs.Laws as registry
-use Rattle.wot_registry.specs.Laws.{History, Entry, registered, removed, Comes, goes_on, still, last_entry}
-use Rattle.wot_registry.proofs.FullLaws.{put_exactly, create_exactly}
-use Rattle.wot_registry.proofs.HistoryLaws.{description_of, times_in, Follows, follows, gives_out, lists_all}
-use Rattle.wot_registry.proofs.Standing.{with_ordered, without_ordered}
+use Rattle.wot_registry.specs.Laws.{History, Comes, last_entry}
+use Rattle.wot_registry.proofs.HistoryLaws.{description_of}
 use Rattle.thing_ops.specs.declared.outcome.Outcome.{Outcome}
 use Rattle.thing_ops.specs.declared.outcome.Outcome.TheVariants as outcome
 use Rattle.thing_ops.specs.declared.request.Accept.{Accept}
@@ -33,10 +23,10 @@ use Rattle.directory_requests.specs.declared.server.ServedEntries.TheVariants as
 use Rattle.directory_requests.specs.declared.act.DirectoryAct.{DirectoryAct}
 use Rattle.directory_requests.specs.declared.act.DirectoryAct.TheVariants as act
 use Rattle.directory_requests.specs.declared.window.Window.{Window}
-use Rattle.directory_requests.specs.Asked.{act_asked, id_in, Stands, IsAnsweredWith, refusals, IsUnrefused}
-use Rattle.directory_requests.specs.Requests.{outcome_of, outcome_of_fault, listed_by, shown, put_outcome, Performs, PerformsAt, standing_at, PerformsOn, DirectoryActs, refuses, is_out_of_memory, performs}
+use Rattle.directory_requests.specs.Asked.{act_asked, id_in, Stands, IsAnsweredWith, IsUnrefused}
+use Rattle.directory_requests.specs.Requests.{outcome_of, outcome_of_fault, listed_by, shown, put_outcome}
 use Rattle.directory_requests.specs.Window.{window_of}
-use Rattle.servient_laws.specs.DirectoryRuns.{DirectoryRequest, entry_at, given_out, stands_under, AreStanding, IsRegistered, to_be_patched, is_change, Makes, puts, creates, patches, removes, leaves, IsPutInVain, IsCreatedInVain, FindsNoRoom, put_in_vain, created_in_vain, IsAnsweredBy}
+use Rattle.servient_laws.specs.DirectoryRuns.{DirectoryRequest, AreStanding, is_change, Makes, IsPutInVain, IsCreatedInVain, FindsNoRoom, put_in_vain, created_in_vain, IsAnsweredBy}
 
 -- ---- outcomes
 

@@ -1,5 +1,5 @@
 -- Each request to the directory in a run is answered by what stands.
-use Rattle.std.proofs.Common.{arith, ◌≡◌, ◌≤◌, ℕ, List, [], ◌∷◌, ◌++◌, max, refl, sym, ap, subst, ◌∙◌, inl, inr}
+use Rattle.std.proofs.Common.{arith, ◌≡◌, ◌≤◌, ℕ, List, [], ◌∷◌, ◌++◌, max, refl, sym, ap, subst, inl, inr}
 use Rattle.std.specs.Prelude.{Option, Some, None}
 use Rattle.std.proofs.lemmas.List.{append-nil, append_assoc}
 use Rattle.servient_base.specs.Moves.{is_done, goes_on}
@@ -10,7 +10,6 @@ use Rattle.thing_ops.specs.declared.outcome.Outcome.{Outcome}
 use Rattle.thing_ops.specs.Requests.{RequestSeen}
 use Rattle.thing_core.specs.Thing.{Done}
 use Rattle.directory_requests.specs.declared.server.ServedEntries.{ServedEntries}
-use Rattle.directory_requests.specs.declared.server.ServedEntries.TheVariants as kept
 use Rattle.directory_requests.specs.Requests.{DirectoryActs}
 use Rattle.http_bind.specs.Streams.{Taken, asks, wants_continue, is_faulty, interrupts}
 use Rattle.servient_outside.specs.declared.net.What.{What}
@@ -18,9 +17,9 @@ use Rattle.servient_outside.specs.declared.net.What.TheVariants as what
 use Rattle.servient_outside.specs.declared.net.EventWithBytes.{EventWithBytes}
 use Rattle.servient_trace.specs.Trace.{Sighting}
 use Rattle.thing_site.specs.Site.{events_of}
-use Rattle.servient_core.specs.Machine.{Site, State, start, PerformsByHttp, AnswersTaken, TakesEveryMessage, Follows, EventAndStep, Run}
+use Rattle.servient_core.specs.Machine.{Site, State, start, PerformsByHttp, AnswersTaken, TakesEveryMessage, Follows, Run}
 use Rattle.servient_laws.specs.DirectoryRuns.{DirectoryRequest, requests_of_request, requests_of_taken, requests_of_messages, requests_of_event, requests_in, AreAnswered, DirectoryGivesOutWhatStands}
-use Rattle.servient_laws.proofs.DirectoryAnswers.{request_at, HasCome, later_come, GoesOn}
+use Rattle.servient_laws.proofs.DirectoryAnswers.{HasCome, later_come, GoesOn}
 use Rattle.servient_laws.proofs.DirectoryTimed.{timed_request}
 use Rattle.servient_laws.proofs.DirectoryUntimed.{untimed_request}
 use Rattle.servient_laws.proofs.DirectorySteps.{SameDirectory, same_as, same_state, then_same, delivers_each_same, if_any_same, all_polls_same, datagram_same, ends_same}

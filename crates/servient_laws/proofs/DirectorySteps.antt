@@ -1,13 +1,12 @@
 -- The moves that leave the directory: all but that a request to it is performed.
 use Rattle.std.proofs.Common.{◌≡◌, ℕ, List, [], ◌∷◌, refl, ap, ◌∙◌, inl, inr}
 use Rattle.std.specs.Prelude.{Option, Some, None, map}
-use Rattle.servient_base.specs.Moves.{Becomes, Then, Passing, Each, Until, is_done, goes_on}
+use Rattle.servient_base.specs.Moves.{Each, Until, is_done, goes_on}
 use Rattle.coap_msg.specs.declared.endpoint.Endpoint.{Endpoint}
 use Rattle.coap_bind.specs.Server.{Heard, ignored, answered_at_once, asked}
 use Rattle.http_bind.specs.Streams.{HttpReply, oldest_for, oldest_late, NoneIdle}
 use Rattle.thing_site.specs.Site.{Placed}
 use Rattle.thing_state.specs.State.{Emission}
-use Rattle.servient_outside.specs.Network.{did}
 use Rattle.servient_trace.specs.Trace.{Sighting}
 use Rattle.servient_core.specs.Machine.{Site, State, Move, RepliesToWait, AnswersWait, AnswersLateWait, SendsIfAny, Delivers, DeliversEach, AnswersDatagram, HearsDatagram, ClosesIdle, PollsAndDelivers, SendsNotification, NothingIsDue, EndsEvent}
 

@@ -1,13 +1,12 @@
 -- One request more to a directory whose entries have times.
-use Rattle.std.proofs.Common.{arith, ◌≡◌, ◌≢◌, ◌≤◌, ℕ, List, [], ◌∷◌, ◌++◌, length, refl, sym, ap, subst, ◌∙◌, inl, inr, Bool, true, false}
-use Rattle.std.specs.Prelude.{◌↔◌, ◌⊎◌, Option, Some, None, IsSome, option_map, Result, Ok, Err}
+use Rattle.std.proofs.Common.{arith, ◌≡◌, ◌≢◌, ◌≤◌, ℕ, List, [], ◌∷◌, ◌++◌, refl, sym, ap, subst, ◌∙◌, inl, inr, Bool, false}
+use Rattle.std.specs.Prelude.{Option, Some, None, IsSome, option_map, Result, Ok, Err}
 use Rattle.wot_json.specs.Tree.{Json}
 use Rattle.wot_json.specs.Lookup.{member_named}
 use Rattle.wot_json.specs.Merge.{merge}
 use Rattle.wot_json.specs.Reading.{tree_of}
 use Rattle.wot_directory.specs.Contents.{Entries}
-use Rattle.wot_directory.specs.declared.fault.DirFault.{DirFault}
-use Rattle.wot_directory.specs.declared.fault.DirFault.TheVariants.{NotFound, Invalid, IdDiffers, HasId, Full, NoMemory}
+use Rattle.wot_directory.specs.declared.fault.DirFault.TheVariants.{NoMemory}
 use Rattle.wot_registry.specs.declared.fault.RegFault.{RegFault}
 use Rattle.wot_registry.specs.declared.fault.RegFault.TheVariants.{Ttl, Directory}
 use Rattle.wot_registry.specs.Times.{Times, times_of}
@@ -16,7 +15,7 @@ use Rattle.wot_registry.specs.Registry.{Registered, standing, own_ttl, PutsAt, C
 use Rattle.wot_registry.specs.Laws as registry
 use Rattle.wot_registry.specs.Laws.{History, Entry, registered, Does, Comes, goes_on, still, last_entry}
 use Rattle.wot_registry.proofs.FullLaws.{put_exactly, create_exactly}
-use Rattle.wot_registry.proofs.HistoryLaws.{description_of, times_in, Follows, follows, gives_out, lists_all}
+use Rattle.wot_registry.proofs.HistoryLaws.{description_of, times_in, follows, gives_out, lists_all}
 use Rattle.thing_ops.specs.declared.outcome.Outcome.{Outcome}
 use Rattle.thing_ops.specs.declared.outcome.Outcome.TheVariants as outcome
 use Rattle.thing_ops.specs.Requests.{RequestSeen}
@@ -25,9 +24,9 @@ use Rattle.directory_requests.specs.declared.server.ServedEntries.TheVariants as
 use Rattle.directory_requests.specs.declared.act.DirectoryAct.{DirectoryAct}
 use Rattle.directory_requests.specs.declared.act.DirectoryAct.TheVariants as act
 use Rattle.directory_requests.specs.Asked.{act_asked, id_in, refusals, IsUnrefused}
-use Rattle.directory_requests.specs.Requests.{outcome_of_fault, listed_by, shown, put_outcome, PerformsAt, PerformsOn, DirectoryActs, refuses, is_out_of_memory, performs}
+use Rattle.directory_requests.specs.Requests.{outcome_of_fault, listed_by, shown, put_outcome, PerformsAt, DirectoryActs, refuses, is_out_of_memory, performs}
 use Rattle.directory_requests.specs.Window.{window_of}
-use Rattle.servient_laws.specs.DirectoryRuns.{AreStanding, IsRegistered, Makes, puts, creates, patches, removes, leaves, IsPutInVain, IsCreatedInVain, FindsNoRoom, put_in_vain, created_in_vain, is_change}
+use Rattle.servient_laws.specs.DirectoryRuns.{AreStanding, IsRegistered, Makes, puts, creates, patches, removes, leaves, IsPutInVain, IsCreatedInVain, put_in_vain, created_in_vain, is_change}
 use Rattle.servient_laws.proofs.DirectoryAnswers.{quiet_as, quiet_refused, refused_not, unchanged_by_any, is_any_full, quiet_list, quiet_entry, not_full_put, request_at, answers, never_full, vain_put, vain_create, refused_answer, memory_answer, unchanged_memory, HasCome, GoesOn}
 
 module _ (epoch last now : ℕ) (history : History) (r : Registered) (comes : Comes epoch last history r) (from : last ≤ now) where

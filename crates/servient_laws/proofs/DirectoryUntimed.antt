@@ -1,6 +1,6 @@
 -- One request more to a directory whose entries have no times.
 use Rattle.std.proofs.Common.{arith, ◌≡◌, ◌≢◌, ◌≤◌, ℕ, List, [], ◌∷◌, ◌++◌, length, refl, sym, ap, subst, ◌∙◌, inl, inr, Bool, true, false, cond}
-use Rattle.std.specs.Prelude.{◌↔◌, ◌⊎◌, ◌<◌, Option, Some, None, IsSome, option_map, slice_get}
+use Rattle.std.specs.Prelude.{◌<◌, Option, Some, None, IsSome, slice_get}
 use Rattle.std.specs.Str.{bytes_eq}
 use Rattle.wot_json.specs.Tree.{Json, AreOrdered}
 use Rattle.wot_json.specs.Lookup.{member_named}
@@ -26,7 +26,7 @@ use Rattle.directory_requests.specs.declared.act.DirectoryAct.TheVariants as act
 use Rattle.directory_requests.specs.Asked.{act_asked, id_in, refusals, IsUnrefused}
 use Rattle.directory_requests.specs.Requests.{outcome_of, listed_by, shown, put_outcome, Performs, DirectoryActs, refuses, is_out_of_memory, performs}
 use Rattle.directory_requests.specs.Window.{window_of}
-use Rattle.servient_laws.specs.DirectoryRuns.{AreStanding, Makes, puts, creates, patches, removes, leaves, IsPutInVain, IsCreatedInVain, FindsNoRoom, put_in_vain, created_in_vain, is_change}
+use Rattle.servient_laws.specs.DirectoryRuns.{AreStanding, Makes, puts, creates, patches, removes, leaves, IsPutInVain, IsCreatedInVain, put_in_vain, created_in_vain, is_change}
 use Rattle.servient_laws.proofs.DirectoryAnswers.{quiet_as, quiet_refused, refused_not, unchanged_by, is_full, quiet_list, quiet_entry, not_full_put, request_at, answers, never_full, vain_put, vain_create, refused_answer, memory_answer, unchanged_memory, HasCome, GoesOn}
 
 -- ---- the entries after a change

@@ -1,5 +1,5 @@
 -- Over files, a network and an output in memory none of whose calls fails, nothing failed.
-use Rattle.std.proofs.Common.{◌≡◌, ◌-◌, ℕ, Bool, true, false, List, Some, length, refl, ap, ◌∙◌, arith}
+use Rattle.std.proofs.Common.{◌≡◌, ◌-◌, ℕ, true, List, Some, length, ap, ◌∙◌, arith}
 use Rattle.servient_base.specs.Count.{Rose, RoseBy}
 use Rattle.servient_outside.specs.CallCount.{none_fails, where_none_fails}
 use Rattle.servient_outside.specs.Files.{FilesSeen}

@@ -12,3 +12,4 @@ pub mod ExampleLaws
 mod AtOnce
 mod ReadExample
 mod ValueExample
+mod WriteExample

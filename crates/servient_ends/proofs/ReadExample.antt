@@ -45,7 +45,7 @@ text = text_of_links (segments_of things)
 abbrev pub first_token : List ℕ
 first_token = to_be_bytes w64 0
 
-abbrev second_token : List ℕ
+abbrev pub second_token : List ℕ
 second_token = to_be_bytes w64 1
 
 abbrev first_question : CoapMessage
@@ -117,7 +117,7 @@ second_answer_bounds = record {
 }
 
 -- no datagram here is as long as one may be
-short : (bytes : List ℕ) → length bytes ≤ 100 → length (take (length bytes) bytes) ≤ 1280
+pub short : (bytes : List ℕ) → length bytes ≤ 100 → length (take (length bytes) bytes) ≤ 1280
 short bytes few = let same = ap length (whole bytes) in omega (arith, same, few)
 
 first_length : length (spelling first_question) ≡ 30

@@ -108,7 +108,7 @@ told_bounds = record {
   empty = λ e. absurd (omega arith);
 }
 
-question_length : length (spelling question) ≡ 23
+question_length : length (spelling question) ≡ 24
 unfolding option_spelling
 question_length = refl
 

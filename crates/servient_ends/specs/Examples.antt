@@ -5,11 +5,12 @@ use Rattle.thing_ops.specs.Outcomes.{coap}
 use Rattle.wot_terms.specs.declared.kind.Kind.TheVariants as kind
 use Rattle.thing_site.specs.Site.{Placed, ExposedThing}
 use Rattle.servient_outside.specs.declared.net.What.TheVariants as what
+use Rattle.coap_msg.specs.declared.constants.TheConstants.{PUT}
 use Rattle.coap_client.specs.declared.state.State.{State as ClientState}
 use Rattle.coap_client.specs.Asking.{Asking}
 use Rattle.coap_client.specs.Exchange.{IsNew}
 use Rattle.servient_core.specs.Machine.{Site, start}
-use Rattle.servient_world.specs.Rows.{RowAsk, AreInOrder, NoOther, IsOfPath, AreReads}
+use Rattle.servient_world.specs.Rows.{RowAsk, AreInOrder, NoOther, IsOfPath, AreReads, IsOfCodeAndPath, AreWrites}
 use Rattle.servient_ends.specs.Ends.{EndsState, IsBeginning, Turn, asks_next, delivers, happens, TakesAll}
 
 -- a new client beside a servient of these Things, in which 16 exchanges may live, at the moment 0
@@ -139,3 +140,56 @@ SomeValueIsTaken =
     × (q : EndsState) × TakesAll (thing_with_alarm ∷ []) observes_and_is_told (beside (thing_with_alarm ∷ []) client) q
     × (q.world.emitted ≡ record { target = 0; text = codes "true" } ∷ [])
     × Contains q.world.taken (record { ask = 0; place = 1; payload = codes "true" })
+
+-- ---- a row of block-wise writes
+
+-- a property without a schema, and a Thing that has it alone
+abbrev pub level : Placed
+level = record alarm { affordance = record alarm.affordance { kind = kind.Property; name = codes "p" } }
+
+abbrev pub thing_with_level : ExposedThing
+thing_with_level = record { segment = codes "t"; description = null; affordances = level ∷ [] }
+
+abbrev pub level_path : List (List ℕ)
+level_path = codes "t" ∷ codes "properties" ∷ codes "p" ∷ []
+
+-- PUT of it with one block of 16 bytes
+abbrev pub put_block : ℕ → Bool → List ℕ → Asking
+put_block n more payload = record {
+  code = 3;
+  path = level_path;
+  observe = None;
+  format = None;
+  block1 = Some (record { number = n; more = more; szx = 0 });
+  block2 = None;
+  payload = payload;
+}
+
+-- the two blocks of [true,true,true,true]
+abbrev pub put_first : Asking
+put_first = put_block 0 true (codes "[true,true,true,")
+
+abbrev pub put_last : Asking
+put_last = put_block 1 false (codes "true]")
+
+-- the client sends both, and each datagram comes to where it was sent
+abbrev pub writes_in_two : List Turn
+writes_in_two = asks_next put_first ∷ delivers 0 ∷ delivers 1 ∷ asks_next put_last ∷ delivers 2 ∷ delivers 3 ∷ []
+
+-- The row of the two asks: the first is answered that others are awaited, the last that it was written.
+abbrev pub first_write : RowAsk
+first_write = record { ask = 0; body = codes "[true,true,true,"; code = coap 2 31; block = None; payload = [] }
+
+abbrev pub last_write : RowAsk
+last_write = record { ask = 1; body = codes "true]"; code = coap 2 04; block = None; payload = [] }
+
+-- After these turns the premises of `ServientWritesOneAct` may hold, and an act was made.
+abbrev pub SomeWritesAct : Type 0
+SomeWritesAct =
+    (client : ClientState) → IsNew 0 client
+    → IsBeginning (thing_with_level ∷ []) 0 16 (beside (thing_with_level ∷ []) client)
+    × (q : EndsState) × TakesAll (thing_with_level ∷ []) writes_in_two (beside (thing_with_level ∷ []) client) q
+    × AreWrites q.world.asks q.world.ends PUT level_path 0 0 (first_write ∷ last_write ∷ [])
+    × AreInOrder (first_write ∷ last_write ∷ [])
+    × NoOther q.world.asks (IsOfCodeAndPath PUT level_path) first_write (last_write ∷ [])
+    × (length q.world.acts ≡ 1)

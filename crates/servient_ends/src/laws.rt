@@ -1,6 +1,6 @@
 //! Laws of both ends where the server is the whole servient, as contracts of functions that do nothing.
 
-ghost use Rattle.servient_ends.specs.Examples.{SomeReadsEnd, SomeServientActs, SomeValueIsTaken};
+ghost use Rattle.servient_ends.specs.Examples.{SomeReadsEnd, SomeServientActs, SomeValueIsTaken, SomeWritesAct};
 ghost use Rattle.servient_ends.specs.Laws.{TurnsAreMoves, ServientActsOnce, ServientAnswersOnce, ServientObservesOnce};
 ghost use Rattle.servient_ends.specs.Laws.{ServientValuesNeverGoBack, ServientValuesHaveASource, ServientRuns, ServientReadsOneAct, ServientWritesOneAct};
 
@@ -64,4 +64,9 @@ pub fn some_reads_end()
 /// A value is taken in some run: the client observes an event, which emits one, and takes it.
 pub fn some_value_is_taken()
     ensures { SomeValueIsTaken }
+{}
+
+/// A row of block-wise writes acts in some run: both blocks of a value are put to a property, and it is written.
+pub fn some_writes_act()
+    ensures { SomeWritesAct }
 {}

@@ -1,6 +1,6 @@
 -- A datagram that the servient answers at once, before anything else came, at the moment 0: the step, and the world after
 -- it.
-use Rattle.std.proofs.Common.{◌≡◌, ◌≤◌, ◌+◌, ℕ, List, [], ◌∷◌, ◌++◌, length, None, inr, refl}
+use Rattle.std.proofs.Common.{◌≤◌, ◌+◌, ℕ, List, [], ◌∷◌, ◌++◌, length, None, inr, refl}
 use Rattle.servient_base.specs.Moves.{is_done}
 use Rattle.coap_bind.specs.declared.server.Server.{Server}
 use Rattle.coap_bind.specs.Server.{Hears, answered_at_once, SendsNext}
@@ -11,7 +11,7 @@ use Rattle.servient_outside.specs.Network.{heard, did}
 use Rattle.servient_trace.specs.Trace.{Sighting, at_network}
 use Rattle.servient_core.specs.Machine.{Site, State, start, EventAndStep}
 use Rattle.servient_world.specs.World.{client_place, server_place, copy_of, reply_to, WorldState, acts_for, id_used, with_sent}
-use Rattle.servient_ends.specs.Ends.{EndsState, act_of, back_of, emitted_by_datagram, notifications_in, with_emissions, with_notifications, event_at, ServientHears}
+use Rattle.servient_ends.specs.Ends.{act_of, back_of, emitted_by_datagram, notifications_in, with_emissions, with_notifications, event_at, ServientHears}
 
 module _ (site : Site) (c d : Server) (bytes reply : List ℕ) (short : length bytes ≤ 1280) (hears : Hears client_place bytes 0 (answered_at_once reply) c d) (quiet : SendsNext 0 None d d) where
   abbrev pub before : State

@@ -1,5 +1,5 @@
 -- A schedule in which a row of block-wise reads ends.
-use Rattle.std.proofs.Common.{◌≡◌, ◌≢◌, ◌≤◌, ◌<◌, ℕ, zero, suc, Option, Some, None, Bool, true, false, List, [], ◌∷◌, ◌++◌, length, take, inl, inr, refl, sym, ap, subst, ◌∙◌, arith}
+use Rattle.std.proofs.Common.{◌≡◌, ◌≤◌, ◌<◌, ℕ, zero, suc, Option, Some, None, true, false, List, [], ◌∷◌, ◌++◌, length, take, inl, inr, refl, sym, ap, subst, ◌∙◌, arith}
 use Rattle.std.specs.Prelude.{slice_index_or, slice_set, codes, All, AllPairs}
 use Rattle.coap_msg.specs.declared.constants.TheConstants.{LONGEST_SEGMENT}
 use Rattle.std.specs.Int.{to_be_bytes, w64}
@@ -7,29 +7,28 @@ use Rattle.std.proofs.lemmas.List.{take_all, get_or-set_other}
 use Rattle.std.proofs.lemmas.List.Elements.{All-nil, All-cons}
 use Rattle.std.proofs.lemmas.List.Kept.{AllPairs-cons}
 use Rattle.coap_msg.specs.declared.message.RequestType.TheVariants.{Confirmable}
-use Rattle.coap_msg.specs.Grammar.{CoapMessage, IsWellFormed, Spells, option_spelling, spelling}
-use Rattle.coap_exchange.specs.Table.{Table, at_moment as later, with_exchange}
+use Rattle.coap_msg.specs.Grammar.{CoapMessage, IsWellFormed, option_spelling, spelling}
+use Rattle.coap_exchange.specs.Table.{at_moment as later, with_exchange}
 use Rattle.coap_observe.specs.Watching.{nobody, nothing}
-use Rattle.coap_blocks.specs.Bodies.{Body}
 use Rattle.coap_client.specs.declared.state.State.{State as ClientState}
 use Rattle.coap_client.specs.declared.news.News.TheVariants as news
 use Rattle.coap_client.specs.declared.news.Delivered.{Delivered}
 use Rattle.coap_client.specs.Asking.{message_for, MayAsk}
 use Rattle.coap_client.specs.Names.{is_recent}
-use Rattle.coap_client.specs.Exchange.{IsNew, at_moment, Asks, request_for, with_request, answered as answered_by, Delivers, of_message}
+use Rattle.coap_client.specs.Exchange.{at_moment, Asks, request_for, with_request, answered as answered_by, Delivers, of_message}
 use Rattle.coap_opts.specs.Reading.{asked as what_is_asked}
 use Rattle.coap_bind.specs.declared.server.Server.{Server}
-use Rattle.coap_bind.specs.Blocks.{content_reply, portion_at, later_reply}
+use Rattle.coap_bind.specs.Blocks.{later_reply}
 use Rattle.coap_bind.specs.Links.{links_content, links_reply}
 use Rattle.coap_bind.specs.Writing.{Reply, coap_reply, head_of}
 use Rattle.coap_bind.specs.Server.{arrival, Hears, admitted, gives_links, replied, later_block, with_kept, links_given, observing_in, answered_at_once, SendsNext}
 use Rattle.servient_core.specs.Links.{segments_of, text_of_links}
 use Rattle.servient_core.specs.Machine.{Site, State, start}
-use Rattle.servient_world.specs.World.{client_place, server_place, copy_of, reply_to, other, WorldState, Datagram, latest, end_by, taken_by, with_sent, ClientAsks, sends_ask, ClientTakes}
+use Rattle.servient_world.specs.World.{client_place, server_place, copy_of, reply_to, other, WorldState, latest, end_by, taken_by, with_sent, ClientAsks, sends_ask}
 use Rattle.servient_world.specs.Laws.{Asked}
 use Rattle.servient_world.specs.Rows.{RowAsk, AreReads, AreInOrder, NoOther, IsOfPath}
 use Rattle.coap_msg.specs.declared.block.Block.{Block}
-use Rattle.servient_ends.specs.Ends.{EndsState, Arrives, to_client, to_servient, AtClient, TakesAll}
+use Rattle.servient_ends.specs.Ends.{EndsState, Arrives, to_client, to_servient, TakesAll}
 use Rattle.servient_ends.specs.Examples.{beside, plain_thing, links_path, get_links, reads_in_two, first_read, last_read, SomeReadsEnd}
 use Rattle.servient_ends.proofs.ExampleLaws.{fresh, is_fresh, starts}
 use Rattle.servient_ends.proofs.AtOnce as once

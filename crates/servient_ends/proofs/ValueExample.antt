@@ -1,7 +1,6 @@
 -- A schedule in which the client takes a value that was emitted.
-use Rattle.std.proofs.Common.{◌≡◌, ◌≤◌, ◌+◌, ℕ, Option, Some, None, Bool, true, false, List, [], ◌∷◌, ◌++◌, length, take, inl, inr, refl, sym, ap, subst, arith}
-use Rattle.std.specs.Prelude.{slice_index_or, codes, All, Contains, map}
-use Rattle.std.proofs.lemmas.List.{take_all}
+use Rattle.std.proofs.Common.{◌≡◌, ◌≤◌, ◌+◌, ℕ, Option, Some, None, Bool, true, List, [], ◌∷◌, ◌++◌, length, take, inl, inr, refl, sym, ap, subst, arith}
+use Rattle.std.specs.Prelude.{slice_index_or, codes, All, Contains}
 use Rattle.std.proofs.lemmas.List.Elements.{All-nil, All-cons}
 use Rattle.servient_base.specs.Moves.{is_done, goes_on}
 use Rattle.coap_msg.specs.declared.constants.TheConstants.{LONGEST_SEGMENT}
@@ -14,7 +13,6 @@ use Rattle.coap_observe.specs.declared.notice.Registered.TheVariants.{New}
 use Rattle.coap_observe.specs.declared.notice.Notice.{Notice}
 use Rattle.coap_observe.specs.declared.observer.Observer.{Observer}
 use Rattle.coap_observe.specs.Watching.{Watching, newcomer, marked, notified, nobody, nothing, first}
-use Rattle.wot_json.specs.declared.tree.Tree.{Tree}
 use Rattle.wot_json.specs.declared.tree.Tree.TheVariants as tree
 use Rattle.thing_ops.specs.declared.outcome.Outcome.TheVariants as outcome
 use Rattle.thing_handler.specs.declared.handler.CallKind.TheVariants as call
@@ -29,7 +27,7 @@ use Rattle.coap_client.specs.declared.news.News.TheVariants as news
 use Rattle.coap_client.specs.declared.news.Delivered.{Delivered}
 use Rattle.coap_client.specs.Asking.{message_for, MayAsk}
 use Rattle.coap_client.specs.Names.{is_recent}
-use Rattle.coap_client.specs.Exchange.{IsNew, at_moment, Asks, request_for, with_request, valued, Delivers, of_message}
+use Rattle.coap_client.specs.Exchange.{at_moment, Asks, request_for, with_request, valued, Delivers, of_message}
 use Rattle.coap_opts.specs.Reading.{asked as what_is_asked}
 use Rattle.coap_bind.specs.declared.server.Server.{Server}
 use Rattle.coap_bind.specs.Observing.{registers}
@@ -42,7 +40,7 @@ use Rattle.servient_outside.specs.Network.{heard, did}
 use Rattle.servient_trace.specs.Trace.{Sighting, at_network, at_handler}
 use Rattle.servient_core.specs.Machine.{Site, State, start, EventAndStep, notification_bytes}
 use Rattle.servient_world.specs.World.{client_place, server_place, copy_of, reply_to, notification_for, other, WorldState, acts_for, id_used, latest, end_by, taken_by, with_sent, ClientAsks, sends_ask}
-use Rattle.servient_ends.specs.Ends.{EndsState, act_of, back_of, emitted_by_datagram, emitted_by, notifications_in, with_emissions, with_notifications, event_at, ServientHears, ServientDoes, Arrives, to_client, to_servient, TakesAll}
+use Rattle.servient_ends.specs.Ends.{EndsState, act_of, back_of, emitted_by_datagram, emitted_by, notifications_in, with_emissions, with_notifications, event_at, ServientDoes, Arrives, to_client, to_servient, TakesAll}
 use Rattle.servient_ends.specs.Examples.{beside, alarm, thing_with_alarm, observe_alarm, observes_and_is_told, SomeValueIsTaken}
 use Rattle.servient_ends.proofs.ExampleLaws.{fresh, is_fresh, starts}
 use Rattle.servient_ends.proofs.ReadExample.{first_token, whole}

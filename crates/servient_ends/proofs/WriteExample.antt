@@ -1,5 +1,5 @@
 -- A schedule in which a row of block-wise writes acts.
-use Rattle.std.proofs.Common.{◌≡◌, ◌≢◌, ◌≤◌, ◌<◌, ◌+◌, ℕ, zero, suc, Option, Some, None, Bool, true, false, List, [], ◌∷◌, ◌++◌, length, take, inl, inr, refl, sym, ap, subst, ◌∙◌, arith}
+use Rattle.std.proofs.Common.{◌≡◌, ◌≤◌, ◌<◌, ◌+◌, ℕ, zero, suc, Option, Some, None, true, false, List, [], ◌∷◌, ◌++◌, length, take, inl, inr, refl, sym, ap, subst, ◌∙◌, arith}
 use Rattle.std.specs.Prelude.{slice_index_or, slice_set, codes, All, AllPairs, option_map}
 use Rattle.std.specs.List.{remove}
 use Rattle.std.proofs.lemmas.List.{get_or-set_other}
@@ -12,17 +12,15 @@ use Rattle.coap_msg.specs.declared.message.RequestType.TheVariants.{Confirmable}
 use Rattle.coap_msg.specs.Grammar.{CoapMessage, IsWellFormed, option_spelling, spelling}
 use Rattle.coap_exchange.specs.Table.{at_moment as later, with_exchange}
 use Rattle.coap_observe.specs.Watching.{nobody, nothing}
-use Rattle.coap_blocks.specs.declared.added.Added.TheVariants.{Continue, Complete}
+use Rattle.coap_blocks.specs.declared.added.Added.TheVariants.{Continue}
 use Rattle.coap_blocks.specs.Parts.{Part, after_block}
 use Rattle.wot_json.specs.Tree.{Json, boolean, array, element, no_elements}
-use Rattle.wot_json.specs.Meaning.{json_of}
 use Rattle.wot_json.specs.Reading.{tree_of}
 use Rattle.wot_json.specs.Json.{text_of}
 use Rattle.wot_json.specs.declared.tree.Tree.{Tree}
 use Rattle.wot_json.specs.declared.tree.Tree.TheVariants as tree
 use Rattle.wot_json.proofs.ReadsBack.{tree_of-text_of}
 use Rattle.thing_ops.specs.declared.outcome.Outcome.TheVariants as outcome
-use Rattle.thing_ops.specs.Requests.{RequestSeen}
 use Rattle.thing_handler.specs.declared.handler.CallKind.TheVariants as call
 use Rattle.thing_handler.specs.declared.handler.Answer.TheVariants as answer
 use Rattle.thing_handler.specs.Turns.{HandlerCall, answered}
@@ -36,14 +34,14 @@ use Rattle.coap_client.specs.declared.news.News.TheVariants as news
 use Rattle.coap_client.specs.declared.news.Delivered.{Delivered}
 use Rattle.coap_client.specs.Asking.{message_for, MayAsk}
 use Rattle.coap_client.specs.Names.{is_recent}
-use Rattle.coap_client.specs.Exchange.{IsNew, at_moment, Asks, request_for, with_request, answered as answered_by, Delivers, of_message}
+use Rattle.coap_client.specs.Exchange.{at_moment, Asks, request_for, with_request, answered as answered_by, Delivers, of_message}
 use Rattle.coap_opts.specs.Reading.{AskSeen, asked as what_is_asked}
 use Rattle.coap_bind.specs.declared.blocks.BlockUse.TheVariants as blocks
 use Rattle.coap_bind.specs.declared.pending.PendingReply.{PendingReply}
 use Rattle.coap_bind.specs.declared.server.Server.{Server}
 use Rattle.coap_bind.specs.Blocks.{continue_reply, answer_reply}
 use Rattle.coap_bind.specs.Observing.{leaves}
-use Rattle.coap_bind.specs.Writing.{Reply, observed as observed_reply, coap_reply, head_of}
+use Rattle.coap_bind.specs.Writing.{observed as observed_reply, coap_reply, head_of}
 use Rattle.coap_bind.specs.Server.{arrival, block_arrival, asked, answered_at_once, Hears, admitted, replied, joined, asks_whole, pending_joined, with_whole_body, with_kept, with_parts, with_id_used, Answers, SendsNext}
 use Rattle.servient_outside.specs.declared.net.What.TheVariants as what
 use Rattle.servient_outside.specs.declared.net.EventWithBytes.{EventWithBytes}

@@ -27,7 +27,8 @@ use Rattle.servient_outside.specs.declared.net.Act.TheVariants as act
 use Rattle.servient_outside.specs.Network.{heard, did}
 use Rattle.servient_core.specs.declared.capacity.TheConstants.{MOST_WATCHERS}
 use Rattle.servient_trace.specs.Trace.{Sighting, at_network}
-use Rattle.servient_core.specs.Machine.{State, start, EventAndStep}
+use Rattle.servient_core.specs.Links.{segments_of, text_of_links}
+use Rattle.servient_core.specs.Machine.{Site, State, start, EventAndStep}
 use Rattle.servient_world.specs.World.{client_place, server_place, copy_of, reply_to, WorldState, acts_for, id_used, with_sent, ClientAsks, sends_ask}
 use Rattle.servient_ends.specs.Ends.{EndsState, IsBeginning, act_of, back_of, emitted_by_datagram, notifications_in, with_emissions, with_notifications, event_at, ServientHears, Arrives, to_servient, TakesAll}
 use Rattle.servient_ends.specs.Examples.{beside, get_root, ask_that_comes, SomeServientActs}
@@ -77,10 +78,10 @@ short_question = let size = question_length in let same = ap length question_tak
 -- ---- who sends it
 
 -- a new client
-abbrev fresh : List (Option ℕ) → ClientState
+abbrev pub fresh : List (Option ℕ) → ClientState
 fresh uses = record { moment = 0; outstanding = None; observation = None; next_token = 0; next_id = 0; uses = uses }
 
-is_fresh : (s : ClientState) → IsNew 0 s → s ≡ fresh s.uses
+pub is_fresh : (s : ClientState) → IsNew 0 s → s ≡ fresh s.uses
 is_fresh s new = λ i. record {
   moment = new.moment i;
   outstanding = new.outstanding i;
@@ -90,9 +91,9 @@ is_fresh s new = λ i. record {
   uses = s.uses;
 }
 
-starts : (s : ClientState) → IsNew 0 s → IsBeginning [] 0 16 (beside s)
-starts s new = record {
-  world = record { client = new; links = []; server = refl; asks = refl; sent = refl; acts = refl; emitted = refl; ids = refl; ends = refl; taken = refl };
+pub starts : (site : Site) (s : ClientState) → IsNew 0 s → IsBeginning site 0 16 (beside site s)
+starts site s new = record {
+  world = record { client = new; links = text_of_links (segments_of site); server = refl; asks = refl; sent = refl; acts = refl; emitted = refl; ids = refl; ends = refl; taken = refl };
   server = refl;
   epoch = None;
   servient = refl;
@@ -103,7 +104,7 @@ asked_state uses = with_request (fresh uses) server_place get_root 0
 
 abbrev asked_world : List (Option ℕ) → WorldState
 asked_world uses =
-    with_sent (record (beside (fresh uses)).world { client = asked_state uses; asks = request_for (fresh uses) server_place get_root 0 ∷ [] })
+    with_sent (record (beside [] (fresh uses)).world { client = asked_state uses; asks = request_for (fresh uses) server_place get_root 0 ∷ [] })
     client_place server_place (copy_of 0) (sent_bytes ∷ [])
 
 may_ask_it : MayAsk get_root
@@ -118,7 +119,7 @@ asks_it uses unused = record {
   after = refl;
 }
 
-asking_plays : (uses : List (Option ℕ)) → slice_index_or uses 0 None ≡ None → ClientAsks get_root (beside (fresh uses)).world (asked_world uses)
+asking_plays : (uses : List (Option ℕ)) → slice_index_or uses 0 None ≡ None → ClientAsks get_root (beside [] (fresh uses)).world (asked_world uses)
 unfolding asks_it
 asking_plays uses unused = sends_ask (length question_bytes) question_bytes question_bytes (asked_state uses) may_ask_it (asks_it uses unused) refl
 
@@ -275,11 +276,11 @@ hears_turn uses = record { seen = at_network (heard it_comes) ∷ reply_seen; st
 arrives : (uses : List (Option ℕ)) → Arrives [] (record { moment = 0; from = client_place; to = server_place; bytes = sent_bytes; purpose = copy_of 0 }) (asked_ends uses) (acted_ends uses)
 arrives uses = to_servient refl refl (hears_turn uses)
 
-acted_run : (uses : List (Option ℕ)) → slice_index_or uses 0 None ≡ None → (q : EndsState) × TakesAll [] ask_that_comes (beside (fresh uses)) q × (length q.world.acts ≡ 1)
+acted_run : (uses : List (Option ℕ)) → slice_index_or uses 0 None ≡ None → (q : EndsState) × TakesAll [] ask_that_comes (beside [] (fresh uses)) q × (length q.world.acts ≡ 1)
 acted_run uses unused = (acted_ends uses, (asked_ends uses, record { does = asking_plays uses unused; same = refl }, (acted_ends uses, arrives uses, refl)), refl)
 
 pub some_servient_acts : SomeServientActs
 some_servient_acts s new =
-    let run : (q : EndsState) × TakesAll [] ask_that_comes (beside s) q × (length q.world.acts ≡ 1)
-    = subst (λ (t : ClientState). (q : EndsState) × TakesAll [] ask_that_comes (beside t) q × (length q.world.acts ≡ 1)) (sym (is_fresh s new)) (acted_run s.uses (new.unused 0)) in
-    (starts s new, run.0, run.1, run.2)
+    let run : (q : EndsState) × TakesAll [] ask_that_comes (beside [] s) q × (length q.world.acts ≡ 1)
+    = subst (λ (t : ClientState). (q : EndsState) × TakesAll [] ask_that_comes (beside [] t) q × (length q.world.acts ≡ 1)) (sym (is_fresh s new)) (acted_run s.uses (new.unused 0)) in
+    (starts [] s new, run.0, run.1, run.2)

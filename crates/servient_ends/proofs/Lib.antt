@@ -9,3 +9,7 @@ pub mod EndsLaws
 pub mod SeenLaws
 pub mod RunLaws
 pub mod ExampleLaws
+mod AtOnce
+mod ReadExample
+mod ValueExample
+mod WriteExample

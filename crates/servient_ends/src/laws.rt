@@ -1,6 +1,6 @@
 //! Laws of both ends where the server is the whole servient, as contracts of functions that do nothing.
 
-ghost use Rattle.servient_ends.specs.Examples.{SomeServientActs};
+ghost use Rattle.servient_ends.specs.Examples.{SomeReadsEnd, SomeServientActs, SomeValueIsTaken, SomeWritesAct};
 ghost use Rattle.servient_ends.specs.Laws.{TurnsAreMoves, ServientActsOnce, ServientAnswersOnce, ServientObservesOnce};
 ghost use Rattle.servient_ends.specs.Laws.{ServientValuesNeverGoBack, ServientValuesHaveASource, ServientRuns, ServientReadsOneAct, ServientWritesOneAct};
 
@@ -54,4 +54,19 @@ pub fn servient_writes_one_act()
 /// Something happens: there is a run in which the servient makes an act.
 pub fn some_servient_acts()
     ensures { SomeServientActs }
+{}
+
+/// A row of block-wise reads ends in some run: the client is given both blocks of the links.
+pub fn some_reads_end()
+    ensures { SomeReadsEnd }
+{}
+
+/// A value is taken in some run: the client observes an event, which emits one, and takes it.
+pub fn some_value_is_taken()
+    ensures { SomeValueIsTaken }
+{}
+
+/// A row of block-wise writes acts in some run: both blocks of a value are put to a property, and it is written.
+pub fn some_writes_act()
+    ensures { SomeWritesAct }
 {}

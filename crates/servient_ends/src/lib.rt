@@ -8,5 +8,6 @@ mod laws;
 pub use laws::{
     servient_acts_once, servient_answers_once, servient_observes_once, servient_reads_one_act,
     servient_runs, servient_values_have_a_source, servient_values_never_go_back,
-    servient_writes_one_act, some_servient_acts, turns_are_moves,
+    servient_writes_one_act, some_reads_end, some_servient_acts, some_value_is_taken,
+    some_writes_act, turns_are_moves,
 };

@@ -39,10 +39,14 @@ pub struct DeviceEntries {
 }
 
 impl Model for DeviceEntries {
+    ghost use Rattle.std.specs.Coded.{codes};
     ghost use Rattle.std.specs.Prelude.{List};
+    ghost use Rattle.wot_json.specs.JsonCodes.{json_code};
     ghost use Rattle.file_devices.specs.declared.entry.DeviceEntry.{DeviceEntry};
 
     ghost Value = { List DeviceEntry };
+
+    ghost coded = { Prim.hlevel (codes, json_code) };
 
     ghost view = { λ e. e.list.items };
 }
@@ -90,13 +94,15 @@ impl DeviceEntries {
 }
 
 /// The number of slots of a rack with these devices.
+#[tactic(auto, using(crate::proofs::SlotCounts::counts_none, crate::proofs::SlotCounts::counts_more, crate::proofs::SlotCounts::counts_all))]
 fn count_slots(entries: &[DeviceEntry]) -> usize
     ensures count { result ≡ spec.slot_count entries.now }
     ensures few { result ≤ 65536 }
 {
     let mut count = SHIPPED_SLOTS;
     for entry in entries {
-        count = count.max(entry.slot as usize + 1);
+        let needed = entry.slot as usize + 1;
+        count = count.max(needed);
     }
     count
 }

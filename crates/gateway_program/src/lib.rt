@@ -53,7 +53,8 @@ fn run_devices(rt: &HostRuntime, name: &Text, words: &[Text]) -> Result<u8, NoMe
 fn run_command(rt: &HostRuntime, entries: &DeviceEntries, words: &[Text]) -> Result<u8, NoMemory> {
     let alloc = rt.alloc();
     let mut list: Vec<Box<dyn Handler>> = Vec::new(alloc);
-    for handler in handlers_of(rt, entries)? {
+    let handlers = handlers_of(rt, entries)?;
+    for handler in handlers {
         list.push(Box::new(alloc, handler)?)?;
     }
     let mut rack = Rack::new(alloc, list);

@@ -14,7 +14,7 @@ use std::alloc::Global;
 pub type GatewayHandler = SlotHandler<DeviceFilesReal<HostRuntime>>;
 
 /// The handlers of a rack with these devices, in the order of their slots.
-#[tactic(auto, using(crate::proofs::Racks::made_none, crate::proofs::Racks::made_more, crate::proofs::Racks::made_all))]
+#[tactic(auto, using(crate::proofs::Racks::made_none, crate::proofs::Racks::made_all))]
 pub fn handlers_of(
     rt: &HostRuntime,
     entries: &DeviceEntries,

@@ -24,7 +24,7 @@ pub counts_more : (entries : List DeviceEntry) (index count needed next : ℕ) (
     → needed ≡ e.slot + 1 → next ≡ max count needed → Counts entries index count → Counts entries (index + 1) next
 counts_more entries index count needed next e within is few asks more counts =
     let one : slot_count (drop index entries) ≡ max (e.slot + 1) (slot_count (drop (index + 1) entries)) =
-        at_drop_more slot_count entries index e within ∙ ap (λ (d : DeviceEntry). max (d.slot + 1) (slot_count (drop (index + 1) entries))) (sym is) in
+    at_drop_more slot_count entries index e within ∙ ap (λ (d : DeviceEntry). max (d.slot + 1) (slot_count (drop (index + 1) entries))) (sym is) in
     record {
       all = omega (arith, one, asks, more, counts.all);
       least = omega (arith, more, counts.least);

@@ -31,7 +31,7 @@ pub made_more : {D : Type 0} (slot : ℕ) (entries : List DeviceEntry) (before g
     → IsHandlerAt slot (find (λ e. e.slot == slot) entries) h → grown ≡ before ++ h ∷ [] → Made (slot + 1) entries grown
 made_more slot entries before grown h made one more =
     let last : IsHandlerAt (length before) (find (λ e. e.slot == length before) entries) h =
-        subst (λ (n : ℕ). IsHandlerAt n (find (λ e. e.slot == n) entries) h) (sym made.count) one in
+    subst (λ (n : ℕ). IsHandlerAt n (find (λ e. e.slot == n) entries) h) (sym made.count) one in
     let counted : length (before ++ h ∷ []) ≡ length before + 1 = length-append before (h ∷ []) in
     subst (Made (slot + 1) entries) (sym more) (record {
       count = omega (arith, counted, made.count);

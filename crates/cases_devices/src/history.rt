@@ -3,7 +3,8 @@
 use crate::readings::Readings;
 use cases_notation::{bytes_of, put_given, put_words};
 use file_devices::{
-    DeviceEntry, DeviceFilesMemory, FileCall, Notation, SlotHandler, Wrote, file_handler,
+    DeviceFilesMemory, FileCall, FileDevice, Notation, SlotHandler, Wrote, file_handler,
+    free_handler, memory_handler,
 };
 use servient_outside::{Calls, Got, Held, HeldFile};
 use std::alloc::{AllocError, Global};
@@ -20,7 +21,7 @@ const LONGEST_WRITTEN: usize = 100;
 struct Before {
     files: Held,
     fails: Calls,
-    contents: Vec<Bytes>,
+    contents: Vec<Option<Bytes>>,
 }
 
 /// A device, the number of its next turn, and the number of calls of files that were written already.
@@ -55,7 +56,11 @@ impl Before {
                 })
             }
             Some(("reading", content)) => {
-                self.contents.push(content_of(alloc, content)?)?;
+                self.contents.push(Some(content_of(alloc, content)?))?;
+                Ok(())
+            }
+            None if line == "absent" => {
+                self.contents.push(None)?;
                 Ok(())
             }
             Some(("fails", number)) => self.fails.push(number.parse::<u64>().unwrap_or(0)),
@@ -74,11 +79,19 @@ fn kind_of(word: &str) -> Option<Kind> {
     }
 }
 
-/// The device of a line, if it is one's.
+/// A device that wasn't called yet.
+fn fresh(handler: SlotHandler<Readings>) -> Device {
+    Device {
+        handler,
+        turn: 0,
+        told: 0,
+    }
+}
+
+/// The device behind a file of a line.
 fn device_of(alloc: Global, before: Before, kind: Kind, rest: &str) -> Result<Device, AllocError> {
     let (name, notation) = rest.split_once(' ').unwrap_or((rest, "json"));
-    let entry = DeviceEntry {
-        slot: 0,
+    let device = FileDevice {
         kind,
         path: Text::copy_of(alloc, name)?,
         notation: match notation {
@@ -96,12 +109,22 @@ fn device_of(alloc: Global, before: Before, kind: Kind, rest: &str) -> Result<De
         contents,
         made: 0,
     };
-    let handler = file_handler(alloc, files, &entry)?;
-    Ok(Device {
-        handler,
-        turn: 0,
-        told: 0,
-    })
+    Ok(fresh(file_handler(alloc, files, &device)?))
+}
+
+/// The device of a line that names no file.
+fn other_device(alloc: Global, word: &str, rest: &str) -> Result<Option<Device>, AllocError> {
+    match word {
+        "memory" => {
+            let value = value_of(alloc, rest)?;
+            Ok(Some(fresh(memory_handler(alloc, &value)?)))
+        }
+        "slot" => {
+            let slot = rest.parse::<usize>().unwrap_or(0);
+            Ok(Some(fresh(free_handler(alloc, slot))))
+        }
+        _ => Ok(None),
+    }
 }
 
 /// The value of a JSON text.
@@ -264,6 +287,9 @@ fn device_in(alloc: Global, block: &str) -> Result<Option<Device>, AllocError> {
         let (word, rest) = line.split_once(' ').unwrap_or((line, ""));
         if let Some(kind) = kind_of(word) {
             return Ok(Some(device_of(alloc, before, kind, rest)?));
+        }
+        if let Some(device) = other_device(alloc, word, rest)? {
+            return Ok(Some(device));
         }
         before.take(alloc, line)?;
     }

@@ -4,8 +4,11 @@
 //! ```text
 //! file NAME CONTENT          a file; in a content `\n` is a line end
 //! reading CONTENT            what the next read gives, in place of a file
+//! absent                     the next read finds no file
 //! fails N                    the call of this number fails, reads and writes counted together from 1
 //! property NAME AS           the device, with `json` or `text` for AS; also `action` and `event`
+//! memory JSON                a property in memory that begins with this value
+//! slot N                     the device of this slot where no entry has it
 //! read, poll, query, cancel  a call, and its answer
 //! write JSON, invoke [JSON]  a call with a value, and its answer
 //! content NAME               what the file holds

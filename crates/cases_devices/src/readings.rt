@@ -9,18 +9,22 @@ use std::alloc::Global;
 use wot_json::Bytes;
 
 /// Files in memory, of which each read gives the next of some contents as long as there is one, whatever file is read.
+/// In the place of a content there may be no file.
 #[derive(Drop)]
 pub struct Readings {
     pub files: DeviceFilesMemory,
-    pub contents: Vec<Bytes>,
+    pub contents: Vec<Option<Bytes>>,
     pub made: usize,
 }
 
-/// A content within a limit.
-fn read_content(alloc: Global, content: &Bytes, limit: usize, into: &mut Bytes) -> Got
+/// A content within a limit, or no file.
+fn read_content(alloc: Global, content: &Option<Bytes>, limit: usize, into: &mut Bytes) -> Got
     ensures answer { AnswersRead None [] limit result into.new }
     ensures no_failure { result ≢ Got.Failed }
 {
+    let Some(content) = content else {
+        return Got::Absent;
+    };
     if content.len() > limit {
         return Got::TooLong;
     }

@@ -3,3 +3,5 @@ mod ListRead
 mod Named
 mod CallLists
 mod OnceLaws
+mod SlotCounts
+mod SlotLaws

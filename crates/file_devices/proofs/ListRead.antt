@@ -9,10 +9,10 @@ use Rattle.wot_json.specs.Meaning.{json_of, json_items}
 use Rattle.wot_json.specs.Places.{element_step_text}
 use Rattle.wot_json.specs.declared.tree.Tree.{Tree}
 use Rattle.wot_json.specs.declared.tree.Tree.TheVariants as json
-use Rattle.file_devices.specs.declared.entries.DeviceEntry.{DeviceEntry}
+use Rattle.file_devices.specs.declared.entry.DeviceEntry.{DeviceEntry}
 use Rattle.file_devices.specs.declared.entries.EntriesFault.{EntriesFault}
 use Rattle.file_devices.specs.declared.entries.EntriesFault.TheVariants as fault
-use Rattle.file_devices.specs.Entries.{entry_of, ReadsFrom, ends, wrong, says, entries_memory, ReadsEntries, is_list}
+use Rattle.file_devices.specs.Entries.{entry_of, entry_said, ReadsFrom, ends, wrong, says, entries_memory, ReadsEntries, is_list}
 
 -- however the entries that are left come out after these, all come out so
 abbrev pub Leads : List Tree → ℕ → List DeviceEntry → Type 0
@@ -24,7 +24,7 @@ left items index item within is =
     at_drop_more json_items items index item within ∙ ap (λ (t : Tree). json_of t ∷ json_items (drop (index + 1) items)) (sym is)
 
 pub leads_more : (items : List Tree) (index : ℕ) (before grown : List DeviceEntry) (item : Tree) (e : DeviceEntry) → index < length items → item ≡ get_or items index item
-    → entry_of before (json_of item) ≡ Ok e → grown ≡ before ++ e ∷ [] → Leads items index before → Leads items (index + 1) grown
+    → entry_of before (json_of item) ≡ Ok (entry_said e) → grown ≡ before ++ e ∷ [] → Leads items index before → Leads items (index + 1) grown
 leads_more items index before grown item e within is said more leads r rest =
     leads r (subst (λ vs. ReadsFrom index before vs r) (sym (left items index item within is))
     (says index before (json_of item) _ e r said (subst (λ es. ReadsFrom (index + 1) es (json_items (drop (index + 1) items)) r) more rest)))

@@ -7,7 +7,8 @@ use Rattle.wot_json.specs.declared.tree.Tree.{Tree}
 use Rattle.servient_outside.specs.declared.files.Got.{Got}
 use Rattle.servient_outside.specs.declared.files.Got.TheVariants.{Whole, Absent, TooLong, Failed}
 use Rattle.thing_handler.specs.declared.handler.Answer.{Answer}
-use Rattle.std.specs.Option.{option_or}
+use Rattle.std.specs.Option.{unwrap_or}
+use Rattle.file_devices.specs.declared.event.EventState.{EventState}
 use Rattle.file_devices.specs.declared.event.Polled.{Polled}
 use Rattle.file_devices.specs.declared.fault.FileFault.{FileFault}
 use Rattle.file_devices.specs.declared.fault.FileFault.TheVariants as fault
@@ -50,9 +51,9 @@ pub puts_device : (before now : FilesSeen) (name called : List ℕ) (wanted text
 puts_device before now name called wanted text meant answer was same says puts is =
     put was (subst (λ t. Puts before now name t was) says (subst (λ n. Puts before now n text was) same puts)) is
 
-pub event_looks : (before now : FilesSeen) (name : List ℕ) (way : Notation) (last : Option Tree) (found : Result Tree FileFault) (r : Result Polled AllocError)
-    → Finds before now name way found → IfOk r (λ p. EventPolls last (option_or p.found last) found p.answer)
-    → IfOk r (λ p. EventLooks before now name way last (option_or p.found last) p.answer)
+pub event_looks : (before now : FilesSeen) (name : List ℕ) (way : Notation) (last : EventState) (found : Result Tree FileFault) (r : Result Polled AllocError)
+    → Finds before now name way found → IfOk r (λ p. EventPolls last (unwrap_or p.found last) found p.answer)
+    → IfOk r (λ p. EventLooks before now name way last (unwrap_or p.found last) p.answer)
 event_looks before now name way last found (Ok p) finds polls = polled found finds polls
 event_looks before now name way last found (Err e) finds polls = tt
 
@@ -64,8 +65,8 @@ answer_in other (Ok a) = a
 answer_in other (Err e) = other
 
 -- a Poll whose turn was kept, and the last value then
-pub looks_kept : (before now : FilesSeen) (name : List ℕ) (way : Notation) (last was next found : Option Tree) (given kept : Answer) → EventLooks before now name way last (option_or found last) given
-    → was ≡ last → next ≡ option_or found was → answered given ≡ answered kept → EventLooks before now name way last next kept
+pub looks_kept : (before now : FilesSeen) (name : List ℕ) (way : Notation) (last was next : EventState) (found : Option EventState) (given kept : Answer) → EventLooks before now name way last (unwrap_or found last) given
+    → was ≡ last → next ≡ unwrap_or found was → answered given ≡ answered kept → EventLooks before now name way last next kept
 looks_kept before now name way last was next found given kept looks stayed is same =
-    subst (λ (n : Option Tree). EventLooks before now name way last n kept) (sym (is ∙ ap (option_or found) stayed))
-    (subst (λ (a : Answer). EventLooks before now name way last (option_or found last) a) (ap (answer_in given) same) looks)
+    subst (λ (n : EventState). EventLooks before now name way last n kept) (sym (is ∙ ap (unwrap_or found) stayed))
+    (subst (λ (a : Answer). EventLooks before now name way last (unwrap_or found last) a) (ap (answer_in given) same) looks)

@@ -8,6 +8,8 @@ use Rattle.thing_handler.specs.declared.handler.CallKind.{CallKind}
 use Rattle.thing_handler.specs.declared.handler.CallKind.TheVariants.{Read, Write, Invoke, Query, Cancel, Poll}
 use Rattle.thing_handler.specs.declared.handler.Answer.{Answer}
 use Rattle.thing_handler.specs.declared.handler.Answer.TheVariants.{Value, Done, Finished, Quiet, Fired, Refused, DeviceFault}
+use Rattle.file_devices.specs.declared.event.EventState.{EventState}
+use Rattle.file_devices.specs.declared.event.EventState.TheVariants as state
 use Rattle.file_devices.specs.declared.fault.FileFault.{FileFault}
 use Rattle.file_devices.specs.declared.fault.FileFault.TheVariants as fault
 use Rattle.file_devices.specs.declared.files.FileCall.TheVariants as file_call
@@ -115,21 +117,33 @@ pub data FiresIfOther (before v : Tree) (answer : Answer) : Type 0 where
   same : json_of before ≡ json_of v → answer ≡ Quiet → FiresIfOther before v answer
   other : json_of before ≢ json_of v → answer ≡ Fired v → FiresIfOther before v answer
 
--- The answer of a Poll that finds this, where the last one that found a value found that, and the last one then. The
--- first has nothing to compare with, and one that fails leaves the last one.
-abbrev pub EventPolls : Option Tree → Option Tree → Result Tree FileFault → Answer → Type 0
-EventPolls last next (Err f) answer = (next ≡ last) × (answer ≡ DeviceFault (fault_number f))
-EventPolls None next (Ok v) answer = (next ≡ Some v) × (answer ≡ Quiet)
-EventPolls (Some before) next (Ok v) answer = (next ≡ Some v) × FiresIfOther before v answer
+-- What polls have found, when one more found no value: one that found no file before any value is remembered, and a
+-- value that was found stays the last one.
+abbrev pub still_found : FileFault → EventState → EventState
+still_found fault.Absent state.Nothing = state.NoFile
+still_found fault.Absent state.NoFile = state.NoFile
+still_found fault.Absent (state.LastValue v) = state.LastValue v
+still_found fault.Failed last = last
+still_found fault.TooLong last = last
+still_found fault.NoValue last = last
+still_found fault.NoText last = last
 
-pub data EventLooks (before now : FilesSeen) (name : List ℕ) (way : Notation) (last next : Option Tree) (answer : Answer) : Type 0 where
+-- The answer of a Poll that finds this, where the polls before found that, and what they all found then. The first value
+-- has nothing to compare with where none of them found the file absent; else the file came, and so it is a change.
+abbrev pub EventPolls : EventState → EventState → Result Tree FileFault → Answer → Type 0
+EventPolls last next (Err f) answer = (next ≡ still_found f last) × (answer ≡ DeviceFault (fault_number f))
+EventPolls state.Nothing next (Ok v) answer = (next ≡ state.LastValue v) × (answer ≡ Quiet)
+EventPolls state.NoFile next (Ok v) answer = (next ≡ state.LastValue v) × (answer ≡ Fired v)
+EventPolls (state.LastValue before) next (Ok v) answer = (next ≡ state.LastValue v) × FiresIfOther before v answer
+
+pub data EventLooks (before now : FilesSeen) (name : List ℕ) (way : Notation) (last next : EventState) (answer : Answer) : Type 0 where
   polled : (found : Result Tree FileFault) → Finds before now name way found → EventPolls last next found answer → EventLooks before now name way last next answer
 
 -- a call that is no Poll
-abbrev pub EventRefuses : FilesSeen → FilesSeen → Option Tree → Option Tree → Answer → Type 0
+abbrev pub EventRefuses : FilesSeen → FilesSeen → EventState → EventState → Answer → Type 0
 EventRefuses before now last next answer = Refuses before now 0 answer × (next ≡ last)
 
-abbrev pub EventAnswers : FilesSeen → FilesSeen → List ℕ → Notation → Option Tree → Option Tree → CallKind → Answer → Type 0
+abbrev pub EventAnswers : FilesSeen → FilesSeen → List ℕ → Notation → EventState → EventState → CallKind → Answer → Type 0
 EventAnswers before now name way last next Read answer = EventRefuses before now last next answer
 EventAnswers before now name way last next (Write v) answer = EventRefuses before now last next answer
 EventAnswers before now name way last next (Invoke id input) answer = EventRefuses before now last next answer

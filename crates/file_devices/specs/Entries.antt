@@ -1,12 +1,15 @@
--- The list of devices: for each device the slot of its handler, its file, and how the file's content writes a value.
--- Its format is the product's own; docs/DEVICES.md retells it.
+-- The list of devices: for each device the slot of its handler, and its file and how the file's content writes a value,
+-- or the value with which it begins in memory. Its format is the product's own; docs/DEVICES.md retells it.
 --
---     [{"slot": 0, "property": "/sys/class/leds/lamp/brightness"}, {"slot": 48, "event": "door", "as": "text"}]
-use Rattle.std.specs.Prelude.{◌≡◌, ℕ, ◌+◌, pos, ◌==◌, nat_le, List, [], ◌∷◌, ◌++◌, codes, Option, Some, None, option_and_then, Result, Ok, Err, if◌then◌else◌}
+--     [{"slot": 0, "property": "/sys/class/leds/lamp/brightness"}, {"slot": 48, "event": "door", "as": "text"},
+--      {"slot": 3, "value": 21}]
+use Rattle.std.specs.Prelude.{◌≡◌, ℕ, ◌+◌, max, pos, ◌==◌, nat_le, List, [], ◌∷◌, ◌++◌, codes, length, Option, Some, None, option_and_then, Result, Ok, Err, if◌then◌else◌}
 use Rattle.std.specs.List.{list_any}
 use Rattle.std.specs.Option.{option_map_or}
 use Rattle.std.specs.Str.{bytes_eq}
+use Rattle.wot_json.specs.Json.{text_of}
 use Rattle.wot_json.specs.Tree.{Json, integer, string, array}
+use Rattle.wot_json.specs.Meaning.{json_of}
 use Rattle.wot_json.specs.Lookup.{element_list, member_named}
 use Rattle.wot_json.specs.Merge.{members_under}
 use Rattle.wot_json.specs.Places.{element_step_text}
@@ -14,11 +17,41 @@ use Rattle.wot_terms.specs.declared.kind.Kind.{Kind}
 use Rattle.wot_terms.specs.declared.kind.Kind.TheVariants as kind
 use Rattle.file_devices.specs.declared.notation.Notation.{Notation}
 use Rattle.file_devices.specs.declared.notation.Notation.TheVariants as notation
-use Rattle.file_devices.specs.declared.entries.DeviceEntry.{DeviceEntry}
+use Rattle.file_devices.specs.declared.entry.DeviceEntry.{DeviceEntry}
+use Rattle.file_devices.specs.declared.entry.EntryDevice.{EntryDevice}
+use Rattle.file_devices.specs.declared.entry.EntryDevice.TheVariants as device
+use Rattle.file_devices.specs.declared.entry.Named.{Named}
+use Rattle.file_devices.specs.declared.entry.Named.TheVariants as named
 use Rattle.file_devices.specs.declared.entries.EntriesFault.{EntriesFault}
 use Rattle.file_devices.specs.declared.entries.EntriesFault.TheVariants as fault
+use Rattle.file_devices.specs.Values.{longest}
+
+-- ---- what an entry says
+
+-- A device: the kind of its affordance, the path of its file and the notation of the file's content; or the value with
+-- which it begins in memory.
+pub data DeviceSaid : Type 0 where
+  behind_file : Kind → List ℕ → Notation → DeviceSaid
+  in_memory : Json → DeviceSaid
+
+-- the slot of its handler, and the device
+pub record EntrySaid : Type 0 where
+  pub slot : ℕ
+  pub device : DeviceSaid
+
+-- what the code's entry says
+abbrev pub device_said : EntryDevice → DeviceSaid
+device_said (device.File f) = behind_file f.kind f.path f.notation
+device_said (device.Memory v) = in_memory (json_of v)
+
+abbrev pub entry_said : DeviceEntry → EntrySaid
+entry_said e = record { slot = e.slot; device = device_said e.device }
 
 -- ---- members
+
+-- the member of this name
+abbrev pub member_in : Json → List ℕ → Option Json
+member_in v name = member_named name (members_under v)
 
 -- a path: a text that isn't empty
 abbrev pub path_in : Json → Option (List ℕ)
@@ -40,7 +73,7 @@ notation_of (Some v) = notation_in v
 
 -- the number of a slot
 abbrev pub slot_in : Json → Option ℕ
-slot_in (integer (pos n)) = if nat_le n 63 then Some n else None
+slot_in (integer (pos n)) = if nat_le n 65535 then Some n else None
 slot_in v = None
 
 -- that of one which no earlier entry has
@@ -48,17 +81,20 @@ abbrev pub free_slot : List DeviceEntry → Option ℕ → Option ℕ
 free_slot before None = None
 free_slot before (Some n) = if list_any (λ e. e.slot == n) before then None else Some n
 
--- the kind of the one file that an entry names, by whether it has the members `property`, `action` and `event`
-abbrev pub kind_named : Option Json → Option Json → Option Json → Option Kind
-kind_named (Some p) None None = Some kind.Property
-kind_named None (Some a) None = Some kind.Action
-kind_named None None (Some e) = Some kind.Event
-kind_named p a e = None
+-- a value whose JSON text isn't too long
+abbrev pub short_value : Json → Option Json
+short_value v = if nat_le (length (text_of v)) longest then Some v else None
 
-abbrev pub kind_of_entry : Json → Option Kind
-kind_of_entry v =
-    let ms = members_under v in
-    kind_named (member_named (codes "property") ms) (member_named (codes "action") ms) (member_named (codes "event") ms)
+-- the one device that an entry names, by whether it has the members `property`, `action`, `event` and `value`
+abbrev pub device_named : Option Json → Option Json → Option Json → Option Json → Option Named
+device_named (Some p) None None None = Some (named.File kind.Property)
+device_named None (Some a) None None = Some (named.File kind.Action)
+device_named None None (Some e) None = Some (named.File kind.Event)
+device_named None None None (Some v) = Some named.Memory
+device_named p a e v = None
+
+abbrev pub named_by : Json → Option Named
+named_by v = device_named (member_in v (codes "property")) (member_in v (codes "action")) (member_in v (codes "event")) (member_in v (codes "value"))
 
 abbrev pub member_of : Kind → List ℕ
 member_of kind.Property = codes "property"
@@ -67,26 +103,33 @@ member_of kind.Event = codes "event"
 
 -- ---- entries
 
--- The device of an entry of this kind, or the pointer to the first of its members that is wrong, in the order of their
--- names: action, as, event, property, slot.
-abbrev pub entry_by : Kind → Option (List ℕ) → Option Notation → Option ℕ → Result DeviceEntry (List ℕ)
-entry_by kind.Action None way slot = Err (codes "/action")
-entry_by kind.Action (Some path) None slot = Err (codes "/as")
-entry_by kind.Event path None slot = Err (codes "/as")
-entry_by kind.Property path None slot = Err (codes "/as")
-entry_by kind.Event None (Some way) slot = Err (codes "/event")
-entry_by kind.Property None (Some way) slot = Err (codes "/property")
-entry_by k (Some path) (Some way) None = Err (codes "/slot")
-entry_by k (Some path) (Some way) (Some slot) = Ok (record { slot = slot; kind = k; path = path; notation = way })
+-- What an entry of a file of this kind says, or the pointer to the first of its members that is wrong, in the order of
+-- their names: action, as, event, property, slot.
+abbrev pub file_by : Kind → Option (List ℕ) → Option Notation → Option ℕ → Result EntrySaid (List ℕ)
+file_by kind.Action None way slot = Err (codes "/action")
+file_by kind.Action (Some path) None slot = Err (codes "/as")
+file_by kind.Event path None slot = Err (codes "/as")
+file_by kind.Property path None slot = Err (codes "/as")
+file_by kind.Event None (Some way) slot = Err (codes "/event")
+file_by kind.Property None (Some way) slot = Err (codes "/property")
+file_by k (Some path) (Some way) None = Err (codes "/slot")
+file_by k (Some path) (Some way) (Some slot) = Ok (record { slot = slot; device = behind_file k path way })
 
--- The device of an entry after those before it. One that doesn't name just one file is wrong itself.
-abbrev pub entry_of : List DeviceEntry → Json → Result DeviceEntry (List ℕ)
+-- The same of an entry of a value in memory: as, slot, value. It has no content, and so no notation.
+abbrev pub memory_by : Option Json → Option ℕ → Option Json → Result EntrySaid (List ℕ)
+memory_by (Some way) slot v = Err (codes "/as")
+memory_by None None v = Err (codes "/slot")
+memory_by None (Some slot) None = Err (codes "/value")
+memory_by None (Some slot) (Some v) = Ok (record { slot = slot; device = in_memory v })
+
+abbrev pub entry_by : (List ℕ → Option Json) → Option ℕ → Named → Result EntrySaid (List ℕ)
+entry_by member slot (named.File k) = file_by k (option_and_then path_in (member (member_of k))) (notation_of (member (codes "as"))) slot
+entry_by member slot named.Memory = memory_by (member (codes "as")) slot (option_and_then short_value (member (codes "value")))
+
+-- What an entry says after those before it. One that doesn't name just one device is wrong itself.
+abbrev pub entry_of : List DeviceEntry → Json → Result EntrySaid (List ℕ)
 entry_of before v =
-    let member = λ (name : List ℕ). member_named name (members_under v) in
-    option_map_or
-    (λ k. entry_by k (option_and_then path_in (member (member_of k))) (notation_of (member (codes "as"))) (free_slot before (option_and_then slot_in (member (codes "slot")))))
-    (kind_of_entry v)
-    (Err [])
+    option_map_or (entry_by (member_in v) (free_slot before (option_and_then slot_in (member_in v (codes "slot"))))) (named_by v) (Err [])
 
 -- ---- the list
 
@@ -95,7 +138,7 @@ pub data ReadsFrom : ℕ → List DeviceEntry → List Json → Result (List Dev
   ends : (index : ℕ) (before : List DeviceEntry) → ReadsFrom index before [] (Ok before)
   wrong : (index : ℕ) (before : List DeviceEntry) (v : Json) (vs : List Json) (pointer : List ℕ) → entry_of before v ≡ Err pointer
       → ReadsFrom index before (v ∷ vs) (Err (fault.At (element_step_text index ++ pointer)))
-  says : (index : ℕ) (before : List DeviceEntry) (v : Json) (vs : List Json) (e : DeviceEntry) (r : Result (List DeviceEntry) EntriesFault) → entry_of before v ≡ Ok e
+  says : (index : ℕ) (before : List DeviceEntry) (v : Json) (vs : List Json) (e : DeviceEntry) (r : Result (List DeviceEntry) EntriesFault) → entry_of before v ≡ Ok (entry_said e)
       → ReadsFrom (index + 1) (before ++ e ∷ []) vs r → ReadsFrom index before (v ∷ vs) r
   entries_memory : (index : ℕ) (before : List DeviceEntry) (vs : List Json) → ReadsFrom index before vs (Err fault.NoMemory)
 
@@ -105,7 +148,15 @@ pub data ReadsEntries (v : Json) (r : Result (List DeviceEntry) EntriesFault) : 
   is_none : ((es : _) → v ≡ array es → ⊥) → r ≡ Err (fault.At []) → ReadsEntries v r
   list_memory : r ≡ Err fault.NoMemory → ReadsEntries v r
 
--- an entry, or a pointer, as the code gives it
-abbrev pub told : {A : Type 0} → Result DeviceEntry A → (A → List ℕ) → Result DeviceEntry (List ℕ)
-told (Ok e) text = Ok e
+-- what the code's entry says, or a pointer
+abbrev pub told : {A : Type 0} → Result DeviceEntry A → (A → List ℕ) → Result EntrySaid (List ℕ)
+told (Ok e) text = Ok (entry_said e)
 told (Err a) text = Err (text a)
+
+-- ---- the slots of the list
+
+-- the number of slots of a rack with these devices: as many as the greatest slot asks for, and at least those that the
+-- product ships
+abbrev pub slot_count : List DeviceEntry → ℕ
+slot_count [] = 64
+slot_count (e ∷ es) = max (e.slot + 1) (slot_count es)

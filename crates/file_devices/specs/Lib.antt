@@ -6,3 +6,4 @@ pub mod Seen
 pub mod Entries
 pub mod Slots
 pub mod Once
+pub mod SlotAnswers

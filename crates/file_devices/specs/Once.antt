@@ -87,6 +87,8 @@ pub record Tells (P : List FileCall → Type 0) (before now : FilesSeen) : Type 
 -- the calls of files in a call of the handler of a slot, where it is a device behind a file
 abbrev pub SlotCalls : {D : Type 0} → (D → FilesSeen) → SlotHandler D → SlotHandler D → CallKind → Result Answer AllocError → Type 0
 SlotCalls seen (slot.Shipped s) now what result = Unit {0}
+SlotCalls seen (slot.NoDevice n) now what result = Unit {0}
+SlotCalls seen (slot.Memory c) now what result = Unit {0}
 SlotCalls seen (slot.Property p) now what result =
     IsSomeAnd (slot_files now) (λ files. Tells (PropertyCalls p.device.name p.device.notation what result) (seen p.device.files) (seen files))
 SlotCalls seen (slot.Action a) now what result =

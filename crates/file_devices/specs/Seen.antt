@@ -6,6 +6,7 @@ use Rattle.file_devices.specs.declared.device.Device.{Device}
 use Rattle.file_devices.specs.declared.property.FileProperty.{FileProperty}
 use Rattle.file_devices.specs.declared.action.FileAction.{FileAction}
 use Rattle.file_devices.specs.declared.event.FileEvent.{FileEvent}
+use Rattle.file_devices.specs.declared.no_device.NoDevice.{NoDevice}
 
 -- a device as the handler of an affordance of this kind
 abbrev pub device_seen : {D : Type 0} → Kind → Device D → Seen
@@ -19,3 +20,7 @@ action_seen a = device_seen Action a.device
 
 abbrev pub event_seen : {D : Type 0} → FileEvent D → Seen
 event_seen e = device_seen Event e.device
+
+-- a property without a device
+abbrev pub none_seen : NoDevice → Seen
+none_seen n = record { kind = Property; turns = n.log.turns.items; misses = n.log.misses }

@@ -1,10 +1,10 @@
-//! An event that comes about when the value in a file changes.
+//! An event that comes about when the value in a file changes, or when the file comes late.
 
-ghost use Rattle.std.specs.Prelude.{◌≡◌, None, IfOk, OnErr};
-ghost use Rattle.std.specs.Option.{option_or};
+ghost use Rattle.std.specs.Prelude.{◌≡◌, Ok, IfOk, OnErr};
+ghost use Rattle.std.specs.Option.{unwrap_or};
 ghost use Rattle.wot_terms.specs.declared.kind.Kind.TheVariants as kind;
 ghost use Rattle.thing_handler.specs.Handler.{AnswersCall, fresh_handler};
-ghost use Rattle.file_devices.specs.Devices.{EventLooks, EventPolls};
+ghost use Rattle.file_devices.specs.Devices.{EventLooks, EventPolls, FiresIfOther, still_found};
 ghost use Rattle.file_devices.specs.Once.{ReadsAtMostOnce, Tells};
 ghost use Rattle.file_devices.specs.Seen.{event_seen};
 
@@ -15,19 +15,31 @@ use std::alloc::Global;
 use thing_handler::{Answer, CallKind, Handler, Kind, NOT_ITS_KIND, Turn};
 use wot_json::{Text, Tree, copy, is_equal};
 
-/// An event that comes about at a Poll that finds another value in a file than the last one that found a value.
+/// An event that comes about at a Poll that finds another value in a file than the last one that found a value, or the
+/// first value in a file that a Poll found absent.
 #[derive(Drop)]
 pub struct FileEvent<D: DeviceFiles> {
     device: Device<D>,
-    last: Option<Tree>,
+    last: EventState,
+}
+
+/// What the polls of an event have found so far.
+#[derive(Drop)]
+pub enum EventState {
+    /// No value, and no poll found that the file is absent.
+    Nothing,
+    /// No value, and a poll found that the file is absent.
+    NoFile,
+    /// This value was found last.
+    LastValue(Tree),
 }
 
 /// The outcome of a Poll.
 #[derive(Drop)]
 struct Polled {
     answer: Answer,
-    /// The value that it found, where it found one.
-    found: Option<Tree>,
+    /// What the polls have found then, where that changed.
+    found: Option<EventState>,
 }
 
 impl<D: DeviceFiles> FileEvent<D> {
@@ -37,11 +49,11 @@ impl<D: DeviceFiles> FileEvent<D> {
         ensures files { result.device.files ≡ files }
         ensures name { result.device.name ≡ name }
         ensures notation { result.device.notation ≡ notation }
-        ensures last { result.last ≡ None }
+        ensures last { result.last ≡ EventState.Nothing }
     {
         FileEvent {
             device: Device::new(alloc, files, name, notation),
-            last: None,
+            last: EventState::Nothing,
         }
     }
 
@@ -55,7 +67,7 @@ impl<D: DeviceFiles> FileEvent<D> {
     /// The outcome of a Poll.
     fn poll(&mut self, alloc: Global) -> Result<Polled, NoMemory>
         ensures looks { IfOk result (λ polled. EventLooks (D.seen self.old.device.files) (D.seen self.new.device.files)
-            self.old.device.name self.old.device.notation self.old.last (option_or polled.found self.old.last) polled.answer) }
+            self.old.device.name self.old.device.notation self.old.last (unwrap_or polled.found self.old.last) polled.answer) }
         ensures held { (D.seen self.new.device.files).held ≡ (D.seen self.old.device.files).held }
         ensures calls { Tells (ReadsAtMostOnce self.old.device.name) (D.seen self.old.device.files) (D.seen self.new.device.files) }
         ensures name { self.new.device.name ≡ self.old.device.name }
@@ -67,7 +79,7 @@ impl<D: DeviceFiles> FileEvent<D> {
         judge_found(alloc, &self.last, found)
     }
 
-    /// The answer to a Poll, whose turn is kept. The value that it found is the last one then, where its turn was kept.
+    /// The answer to a Poll, whose turn is kept. What it found is remembered, where its turn was kept.
     fn answer_poll(
         &mut self,
         alloc: Global,
@@ -96,41 +108,71 @@ impl<D: DeviceFiles> FileEvent<D> {
     }
 }
 
-/// Keeps the value that was found, where one was, as the last one.
-fn keep_found(last: &mut Option<Tree>, found: Option<Tree>)
-    ensures { last.new ≡ option_or found last.old }
+/// Keeps what the polls have found then, where that changed.
+fn keep_found(last: &mut EventState, found: Option<EventState>)
+    ensures { last.new ≡ unwrap_or found last.old }
 {
-    if let Some(value) = found {
-        *last = Some(value);
+    if let Some(state) = found {
+        *last = state;
     }
 }
 
-/// The outcome of a Poll that found this, where `last` was found last.
+/// The outcome of a Poll that found this, where the polls before it found `last`.
 fn judge_found(
     alloc: Global,
-    last: &Option<Tree>,
+    last: &EventState,
     found: Result<Tree, FileFault>,
 ) -> Result<Polled, NoMemory>
-    ensures { IfOk result (λ polled. EventPolls last.now (option_or polled.found last.now) found polled.answer) }
+    ensures { IfOk result (λ polled. EventPolls last.now (unwrap_or polled.found last.now) found polled.answer) }
 {
     // A match and not `?`, since a fault of the file is an answer too.
-    let value = match found {
-        Ok(value) => value,
-        Err(fault) => {
-            return Ok(Polled {
-                answer: Answer::DeviceFault(fault.number()),
-                found: None,
-            });
+    match found {
+        Ok(value) => {
+            let answer = answer_to_value(alloc, last, &value)?;
+            let found = Some(EventState::LastValue(value));
+            Ok(Polled { answer, found })
         }
-    };
-    let answer = match last {
-        Some(before) if !is_equal(before, &value) => Answer::Fired(copy(alloc, &value)?),
-        _ => Answer::Quiet,
-    };
-    Ok(Polled {
-        answer,
-        found: Some(value),
-    })
+        Err(fault) => {
+            let answer = Answer::DeviceFault(fault.number());
+            let found = changed_by(fault, last);
+            Ok(Polled { answer, found })
+        }
+    }
+}
+
+/// The answer to a Poll that found this value, where the polls before it found `last`.
+fn answer_to_value(alloc: Global, last: &EventState, value: &Tree) -> Result<Answer, NoMemory>
+    ensures { IfOk result (EventPolls last.now (EventState.LastValue value.now) (Ok value.now)) }
+{
+    match last {
+        EventState::Nothing => Ok(Answer::Quiet),
+        EventState::NoFile => Ok(Answer::Fired(copy(alloc, value)?)),
+        EventState::LastValue(before) => fired_if_other(alloc, before, value),
+    }
+}
+
+/// The answer to a Poll that found this value, where the last one was `before`.
+fn fired_if_other(alloc: Global, before: &Tree, value: &Tree) -> Result<Answer, NoMemory>
+    ensures { IfOk result (FiresIfOther before.now value.now) }
+{
+    if is_equal(before, value) {
+        return Ok(Answer::Quiet);
+    }
+    Ok(Answer::Fired(copy(alloc, value)?))
+}
+
+/// What the polls have found when one more had this fault, where that changed.
+fn changed_by(fault: FileFault, last: &EventState) -> Option<EventState>
+    ensures { unwrap_or result last.now ≡ still_found fault last.now }
+{
+    match fault {
+        FileFault::Absent => match last {
+            EventState::Nothing => Some(EventState::NoFile),
+            EventState::NoFile => None,
+            EventState::LastValue(_) => None,
+        },
+        FileFault::Failed | FileFault::TooLong | FileFault::NoValue | FileFault::NoText => None,
+    }
 }
 
 impl<D: DeviceFiles> Handler for FileEvent<D> {

@@ -2,7 +2,7 @@
 //! LEDs, PWM, thermal zones, 1-wire), and any program can write or read one.
 //!
 //! A property is read from its file and written into it, an action writes its input, and an event comes about when the
-//! file's value changed since the last poll. Nothing is remembered in place of reading. All memory, that of the turn
+//! file's value changed since the last poll, or when the file came late. Nothing is remembered in place of reading. All memory, that of the turn
 //! too, is taken before a file is written, so that nothing was written where a call is out of memory.
 //!
 //! ```text
@@ -21,21 +21,25 @@ mod action;
 mod call_log;
 mod device;
 mod entries;
+mod entry;
 mod event;
 mod fault;
 mod files;
 mod files_memory;
+mod no_device;
 mod notation;
 mod property;
 mod slot_handler;
 mod values;
 
 pub use action::FileAction;
-pub use entries::{DeviceEntries, DeviceEntry, EntriesFault, read_entries};
-pub use event::FileEvent;
+pub use entries::{DeviceEntries, EntriesFault, read_entries};
+pub use entry::{DeviceEntry, EntryDevice, FileDevice};
+pub use event::{EventState, FileEvent};
 pub use fault::FileFault;
 pub use files::{DeviceFiles, FileCall, Wrote};
 pub use files_memory::DeviceFilesMemory;
+pub use no_device::NoDevice;
 pub use notation::Notation;
 pub use property::FileProperty;
-pub use slot_handler::{SlotHandler, file_handler, shipped_handler};
+pub use slot_handler::{SlotHandler, file_handler, free_handler, memory_handler};

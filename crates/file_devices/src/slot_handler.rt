@@ -1,53 +1,70 @@
-//! The handler in a slot of a gateway's rack: a device behind a file, or else the handler in memory that the product
-//! ships for the slot.
+//! The handler in a slot of a gateway's rack: the device of the slot's entry, or else the handler in memory that the
+//! product ships for the slot, or above those one that refuses each call.
 
-ghost use Rattle.std.specs.Prelude.{◌≡◌, ◌<◌, Some, IfOk, option_map};
-ghost use Rattle.thing_handler.specs.Handler.{fresh_handler};
-ghost use Rattle.thing_handler.specs.Shipped.{device_kind, shipped_device};
-ghost use Rattle.file_devices.specs.Slots.{entry_device, slot_device, slot_files, slot_seen, slot_shipped};
+ghost use Rattle.std.specs.Prelude.{◌≡◌, Some, IfOk, option_map};
+ghost use Rattle.wot_terms.specs.declared.kind.Kind.TheVariants as kind;
+ghost use Rattle.file_devices.specs.Slots.{IsFresh, free_slot_is, free_slot_kind, is_file, is_memory, slot_files};
 
-use crate::{DeviceEntry, DeviceFiles, FileAction, FileEvent, FileProperty};
+use crate::{DeviceFiles, FileAction, FileDevice, FileEvent, FileProperty, NoDevice};
 use servient_base::NoMemory;
 use std::alloc::Global;
-use thing_handler::{Answer, CallKind, Handler, Kind, Shipped, Turn, shipped_in};
-use wot_json::Text;
+use thing_handler::{
+    Answer, CallKind, Cell, Handler, Kind, SHIPPED_SLOTS, Shipped, Turn, shipped_in,
+};
+use wot_json::{Text, Tree, copy};
 
 /// The handler of a slot. Its callers box this, since a library can't hand out a boxed one.
 #[derive(Drop)]
 pub enum SlotHandler<D: DeviceFiles> {
+    /// One in memory that the product ships.
     Shipped(Shipped),
+    /// A slot without a device.
+    NoDevice(NoDevice),
+    /// A property in memory.
+    Memory(Cell),
     Property(FileProperty<D>),
     Action(FileAction<D>),
     Event(FileEvent<D>),
 }
 
-/// The handler of a device, which wasn't called yet.
+/// The handler of a device behind a file, which wasn't called yet.
 pub fn file_handler<D: DeviceFiles>(
     alloc: Global,
     files: D,
-    entry: &DeviceEntry,
+    device: &FileDevice,
 ) -> Result<SlotHandler<D>, NoMemory>
-    ensures seen { IfOk result (λ handler. slot_seen handler ≡ fresh_handler entry.now.kind) }
-    ensures device { IfOk result (λ handler. slot_device handler ≡ Some (entry_device entry.now)) }
+    ensures device { IfOk result (IsFresh (is_file device.now) device.now.kind) }
     ensures files { IfOk result (λ handler. slot_files handler ≡ Some files) }
 {
-    let path = Text::copy_of(alloc, entry.path.as_str())?;
-    Ok(match entry.kind {
+    let path = Text::copy_of(alloc, device.path.as_str())?;
+    Ok(match device.kind {
         Kind::Property => {
-            SlotHandler::Property(FileProperty::new(alloc, files, path, entry.notation))
+            SlotHandler::Property(FileProperty::new(alloc, files, path, device.notation))
         }
-        Kind::Action => SlotHandler::Action(FileAction::new(alloc, files, path, entry.notation)),
-        Kind::Event => SlotHandler::Event(FileEvent::new(alloc, files, path, entry.notation)),
+        Kind::Action => SlotHandler::Action(FileAction::new(alloc, files, path, device.notation)),
+        Kind::Event => SlotHandler::Event(FileEvent::new(alloc, files, path, device.notation)),
     })
 }
 
-/// The handler that the product ships for this slot.
-pub fn shipped_handler<D: DeviceFiles>(alloc: Global, slot: usize) -> SlotHandler<D>
-    requires { slot < 64 }
-    ensures seen { slot_seen result ≡ fresh_handler (device_kind (shipped_device slot)) }
-    ensures device { slot_shipped result ≡ Some (shipped_device slot) }
+/// The handler of a property in memory that holds this value, which wasn't called yet.
+pub fn memory_handler<D: DeviceFiles>(
+    alloc: Global,
+    value: &Tree,
+) -> Result<SlotHandler<D>, NoMemory>
+    ensures { IfOk result (IsFresh (is_memory value.now) kind.Property) }
 {
-    SlotHandler::Shipped(shipped_in(alloc, slot))
+    Ok(SlotHandler::Memory(Cell::new(alloc, copy(alloc, value)?)))
+}
+
+/// The handler of a slot without an entry: the one that the product ships for the slot, or none where it ships none.
+pub fn free_handler<D: DeviceFiles>(alloc: Global, slot: usize) -> SlotHandler<D>
+    ensures { IsFresh (free_slot_is slot) (free_slot_kind slot) result }
+{
+    if slot < SHIPPED_SLOTS {
+        SlotHandler::Shipped(shipped_in(alloc, slot))
+    } else {
+        SlotHandler::NoDevice(NoDevice::new(alloc))
+    }
 }
 
 impl<D: DeviceFiles> SlotHandler<D> {
@@ -56,7 +73,7 @@ impl<D: DeviceFiles> SlotHandler<D> {
         ensures { option_map (λ files. files.now) result ≡ slot_files self.now }
     {
         match self {
-            SlotHandler::Shipped(_) => None,
+            SlotHandler::Shipped(_) | SlotHandler::NoDevice(_) | SlotHandler::Memory(_) => None,
             SlotHandler::Property(handler) => Some(handler.files()),
             SlotHandler::Action(handler) => Some(handler.files()),
             SlotHandler::Event(handler) => Some(handler.files()),
@@ -65,9 +82,10 @@ impl<D: DeviceFiles> SlotHandler<D> {
 }
 
 impl<D: DeviceFiles> Handler for SlotHandler<D> {
-    ghost use Rattle.std.specs.Prelude.{◌≡◌};
+    ghost use Rattle.std.specs.Prelude.{◌≡◌, IfOk};
     ghost use Rattle.thing_handler.specs.Handler.{AnswersCall};
     ghost use Rattle.file_devices.specs.Once.{SlotCalls};
+    ghost use Rattle.file_devices.specs.SlotAnswers.{SlotAnswers};
     ghost use Rattle.file_devices.specs.Slots.{slot_device, slot_seen};
 
     ghost seen = { slot_seen };
@@ -75,19 +93,25 @@ impl<D: DeviceFiles> Handler for SlotHandler<D> {
     fn kind(&self) -> Kind {
         match self {
             SlotHandler::Shipped(handler) => handler.kind(),
+            SlotHandler::NoDevice(handler) => handler.kind(),
+            SlotHandler::Memory(handler) => handler.kind(),
             SlotHandler::Property(handler) => handler.kind(),
             SlotHandler::Action(handler) => handler.kind(),
             SlotHandler::Event(handler) => handler.kind(),
         }
     }
 
+    #[tactic(auto, using(crate::proofs::SlotLaws::shipped_answers, crate::proofs::SlotLaws::memory_answers))]
     fn call(&mut self, alloc: Global, number: u64, what: &CallKind) -> Result<Answer, NoMemory>
         ensures turn { AnswersCall (slot_seen self.old) (slot_seen self.new) number what.now result }
+        ensures answer { IfOk result (SlotAnswers D.seen self.old self.new what.now) }
         ensures calls { SlotCalls D.seen self.old self.new what.now result }
         ensures device { slot_device self.new ≡ slot_device self.old }
     {
         match self {
             SlotHandler::Shipped(handler) => handler.call(alloc, number, what),
+            SlotHandler::NoDevice(handler) => handler.call(alloc, number, what),
+            SlotHandler::Memory(handler) => handler.call(alloc, number, what),
             SlotHandler::Property(handler) => handler.call(alloc, number, what),
             SlotHandler::Action(handler) => handler.call(alloc, number, what),
             SlotHandler::Event(handler) => handler.call(alloc, number, what),
@@ -97,6 +121,8 @@ impl<D: DeviceFiles> Handler for SlotHandler<D> {
     fn turns(&self) -> &[Turn] {
         match self {
             SlotHandler::Shipped(handler) => handler.turns(),
+            SlotHandler::NoDevice(handler) => handler.turns(),
+            SlotHandler::Memory(handler) => handler.turns(),
             SlotHandler::Property(handler) => handler.turns(),
             SlotHandler::Action(handler) => handler.turns(),
             SlotHandler::Event(handler) => handler.turns(),
@@ -106,6 +132,8 @@ impl<D: DeviceFiles> Handler for SlotHandler<D> {
     fn forget(&mut self) {
         match self {
             SlotHandler::Shipped(handler) => handler.forget(),
+            SlotHandler::NoDevice(handler) => handler.forget(),
+            SlotHandler::Memory(handler) => handler.forget(),
             SlotHandler::Property(handler) => handler.forget(),
             SlotHandler::Action(handler) => handler.forget(),
             SlotHandler::Event(handler) => handler.forget(),

@@ -4,23 +4,20 @@
 //! It is a library so that each stored run is a program of this one call.
 #![tactic(auto)]
 
-ghost use Rattle.std.specs.Prelude.{◌<◌, ◌==◌, IfOk, find};
-ghost use Rattle.file_devices.specs.Slots.{IsHandlerAt};
-
 mod device_files;
 mod devices;
+mod handlers;
 
-use device_files::DeviceFilesReal;
 use devices::read_devices;
-use file_devices::{DeviceEntries, SlotHandler, file_handler, shipped_handler};
+use file_devices::DeviceEntries;
+use handlers::handlers_of;
 use servient_base::NoMemory;
 use servient_cli::{report, servient_main};
 use servient_edge::{FilesReal, MioNet, OutReal};
 use servient_program::{after_first, out_of_memory, process_words};
-use std::alloc::Global;
 use std::io;
 use std::process::ExitCode;
-use thing_handler::{Handler, Rack, SHIPPED_SLOTS};
+use thing_handler::{Handler, Rack};
 use wot_json::Text;
 
 /// Does the command of the words after the program's name, and gives the exit status.
@@ -56,8 +53,9 @@ fn run_devices(rt: &HostRuntime, name: &Text, words: &[Text]) -> Result<u8, NoMe
 fn run_command(rt: &HostRuntime, entries: &DeviceEntries, words: &[Text]) -> Result<u8, NoMemory> {
     let alloc = rt.alloc();
     let mut list: Vec<Box<dyn Handler>> = Vec::new(alloc);
-    for slot in 0..SHIPPED_SLOTS {
-        list.push(Box::new(alloc, handler_at(rt, entries, slot)?)?)?;
+    let handlers = handlers_of(rt, entries)?;
+    for handler in handlers {
+        list.push(Box::new(alloc, handler)?)?;
     }
     let mut rack = Rack::new(alloc, list);
     let mut files = FilesReal::new(rt.clone()?);
@@ -66,20 +64,4 @@ fn run_command(rt: &HostRuntime, entries: &DeviceEntries, words: &[Text]) -> Res
     let status = servient_main(alloc, words, &mut files, &mut net, &mut rack, &mut out);
     net.finish();
     Ok(status)
-}
-
-/// The handler of a slot: that of its device, or the one that the product ships.
-fn handler_at(
-    rt: &HostRuntime,
-    entries: &DeviceEntries,
-    slot: usize,
-) -> Result<SlotHandler<DeviceFilesReal<HostRuntime>>, NoMemory>
-    requires { slot < 64 }
-    ensures { IfOk result (IsHandlerAt slot (find (λ e. e.slot == slot) entries.now)) }
-{
-    let alloc: Global = rt.alloc();
-    match entries.at(slot as u32) {
-        Some(entry) => file_handler(alloc, DeviceFilesReal::new(rt.clone()?, rt.clone()?), entry),
-        None => Ok(shipped_handler(alloc, slot)),
-    }
 }

@@ -1,5 +1,6 @@
-use Rattle.std.proofs.Common.{◌≡◌, vec_len}
+use Rattle.std.proofs.Common.{◌≤◌, ◌+◌, vec_len}
+use Rattle.std.specs.Vec.Iter.{into_iter_len}
 use Rattle.gateway_program.proofs.run_command.Given as goal
 
-abbrev pub invariant-loop-slot : goal.invariant-loop-slot
-invariant-loop-slot l = vec_len l.list ≡ l.slot
+abbrev pub invariant-loop-handler : goal.invariant-loop-handler
+invariant-loop-handler l = vec_len l.list + into_iter_len l.handler-iterator ≤ 65536

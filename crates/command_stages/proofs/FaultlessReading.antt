@@ -1,6 +1,9 @@
 -- Stages with which nothing is wrong: each goes on with its value, or is out of memory.
 use Rattle.std.proofs.Common.{◌≡◌, ◌<◌, ◌≤◌, ◌⊎◌, ℕ, List, [], ◌∷◌, ◌++◌, length, Result, Ok, Err, Option, Some, None, sym, ap, ◌∙◌, subst, arith, inl, inr}
-use Rattle.std.specs.Prelude.{IfSome, IsSome, IsSomeAnd, slice_get}
+use Rattle.std.specs.Prelude.{MatchResult, IfSome, IsSome, IsSomeAnd, slice_get}
+use Rattle.url.specs.Parser.{parse_url, IsOutOfRoom}
+use Rattle.url.specs.Parts.{Parts}
+use Rattle.url.specs.declared.error.ParseError.{ParseError}
 use Rattle.tm_parts.specs.Library.{Models, MayAdd, with_model}
 use Rattle.servient_plan.specs.declared.plan.Plan.{Plan}
 use Rattle.servient_plan.specs.Plan.{plan_of}
@@ -190,8 +193,13 @@ plan_well name tree v plan seen o same it (plan_memory end) = inr end.1
 missing : (o : Option Json) → o ≡ None → IsSome o → ⊥
 missing o none some = cc
 
+-- a text isn't both fit to name a model and not
+apart : {A E : Type 0} (P : A → Type 0) (Q : E → Type 0) (r : Result A E) → MatchResult r P (λ e. ⊥) → MatchResult r (λ a. ¬ (P a)) Q → ⊥
+apart P Q (Ok a) is isnt = isnt is
+apart P Q (Err e) is isnt = is
+
 no_refusal : (url : List ℕ) (v : Json) (models : Models) (what : List ℕ) → MayAdd url v models → IsNotTaken url v models what → ⊥
-no_refusal url v models what may (has_bad_url fault is) = fault may.url_is
+no_refusal url v models what may (has_bad_url fault is) = apart (λ (parts : Parts). parts.fragment ≡ None) (λ (e : ParseError). ¬ (IsOutOfRoom e)) (parse_url None url) may.url_is fault
 no_refusal url v models what may (is_there_twice fault is) = absurd (missing (member_named url models) may.new fault.1)
 no_refusal url v models what may (is_no_model fault is) = absurd cc
 

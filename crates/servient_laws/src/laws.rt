@@ -72,8 +72,8 @@ pub fn handlers_stay()
     ensures { HandlersStay }
 {}
 
-/// Over files, a network and an output in memory none of whose calls fails, with room for the text that the command
-/// writes, there is no failure of those that the clause `complete` of the top call asks about, whatever the command.
+/// Over files and an output in memory none of whose calls fails, with room for the text that the command writes, there
+/// is no failure of those that the clause `complete` of the top call asks about.
 pub fn nothing_fails_in_memory()
     ensures { NothingFailsInMemory }
 {}

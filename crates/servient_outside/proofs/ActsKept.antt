@@ -53,9 +53,9 @@ call_made (act.Looked host port to) made is = refl
 
 -- an act that can't fail is all that is seen of it
 pub shows_act : (before now : NetMemory) (a : Act) → IsNoCall a → GoesOnBy before now a → left_events now ≡ left_events before → KeepsEvents before now → NetShows (net_seen before) (net_seen now) (did a ∷ [])
-shows_act before now (act.Sent c bytes) is h left stays = record { history = h; left = left; faults = omega (arith, stays.faults); no_failure = λ never. (ap (λ (c : CallCount). none_fails c.fails) stays.calls ∙ never, refl) }
-shows_act before now (act.Closed c) is h left stays = record { history = h; left = left; faults = omega (arith, stays.faults); no_failure = λ never. (ap (λ (c : CallCount). none_fails c.fails) stays.calls ∙ never, refl) }
-shows_act before now (act.Datagram to bytes) is h left stays = record { history = h; left = left; faults = omega (arith, stays.faults); no_failure = λ never. (ap (λ (c : CallCount). none_fails c.fails) stays.calls ∙ never, refl) }
+shows_act before now (act.Sent c bytes) is h left stays = record { history = h; left = left; faults = omega (arith, stays.faults); no_failure = λ never. (ap (λ (c : CallCount). none_fails c.fails) stays.calls ∙ never, refl, stays.faults) }
+shows_act before now (act.Closed c) is h left stays = record { history = h; left = left; faults = omega (arith, stays.faults); no_failure = λ never. (ap (λ (c : CallCount). none_fails c.fails) stays.calls ∙ never, refl, stays.faults) }
+shows_act before now (act.Datagram to bytes) is h left stays = record { history = h; left = left; faults = omega (arith, stays.faults); no_failure = λ never. (ap (λ (c : CallCount). none_fails c.fails) stays.calls ∙ never, refl, stays.faults) }
 shows_act before now (act.Listened place) is h left stays = absurd is
 shows_act before now (act.Dialled host port c) is h left stays = absurd is
 shows_act before now (act.Looked host port to) is h left stays = absurd is
@@ -74,7 +74,7 @@ failing_never (f ∷ fails) number is never = absurd cc
 
 -- a call and what follows it are all that is seen of it
 pub shows_call : (before now : NetMemory) (a : Act) (more : List Happening) (faults : ℕ) → GoesOnBy before now a → breaks_after before.calls.fails before.calls.made a ≡ more → left_events now ≡ left_events before
-    → now.calls.fails ≡ before.calls.fails → (none_fails before.calls.fails ≡ true → break_count more ≡ 0)
+    → now.calls.fails ≡ before.calls.fails → (none_fails before.calls.fails ≡ true → (break_count more ≡ 0) × (faults ≡ before.faults))
     → RoseBy (break_count more) before.faults faults → Leaves more (left_events before) (left_events before)
     → NetShows (net_seen before) (record { history = told_history now; left = left_events now; faults = faults; never_fail = none_fails now.calls.fails }) (did a ∷ more)
 shows_call before now a more faults h same left kept unbroken rose stays =
@@ -82,5 +82,5 @@ shows_call before now a more faults h same left kept unbroken rose stays =
       history = subst (λ (xs : List Happening). Continues (told_history before) (told_history now) (did a ∷ xs)) same h;
       left = subst (λ (o : Option (List EventWithBytes)). Leaves more (left_events before) o) (sym left) stays;
       faults = rose;
-      no_failure = λ never. (ap none_fails kept ∙ never, unbroken never);
+      no_failure = λ never. (ap none_fails kept ∙ never, (unbroken never).0, (unbroken never).1);
     }

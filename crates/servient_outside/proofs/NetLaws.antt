@@ -1,5 +1,5 @@
 -- Laws of what a network shows.
-use Rattle.std.proofs.Common.{◌≡◌, ◌+◌, List, [], ◌∷◌, ◌++◌, Option, Some, None, refl, subst, arith}
+use Rattle.std.proofs.Common.{◌≡◌, ◌+◌, List, [], ◌∷◌, ◌++◌, Option, Some, None, refl, subst, ◌∙◌, arith}
 use Rattle.servient_base.specs.Moves.{ShowsInOrder}
 use Rattle.servient_outside.specs.declared.net.EventWithBytes.{EventWithBytes}
 use Rattle.servient_outside.specs.Network.{Happening, heard, did, broke, break_count, NetSeen, Leaves, NetShows}
@@ -23,7 +23,7 @@ leaves_then (broke call ∷ a) b None second third p q = tt
 
 -- nothing happened
 pub net_shows_none : (w : NetSeen) → NetShows w w []
-net_shows_none w = record { history = continues_same w.history; left = refl; faults = omega arith; no_failure = λ never. (never, refl) }
+net_shows_none w = record { history = continues_same w.history; left = refl; faults = omega arith; no_failure = λ never. (never, refl, refl) }
 
 -- happenings of one time and then of another
 pub net_shows_then : (w v u : NetSeen) (a b : List Happening) → NetShows w v a → NetShows v u b → NetShows w u (a ++ b)
@@ -34,7 +34,7 @@ net_shows_then w v u a b p q = record {
   no_failure = λ never.
       let first = p.no_failure never in
       let second = q.no_failure first.0 in
-      (second.0, omega (arith, break_count-append a b, first.1, second.1));
+      (second.0, omega (arith, break_count-append a b, first.1, second.1), second.2 ∙ first.2);
 }
 
 -- a network shows what happens in its order

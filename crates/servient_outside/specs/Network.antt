@@ -121,10 +121,10 @@ Leaves (broke call ∷ happened) (Some (first ∷ rest)) now = ⊥
 Leaves (broke call ∷ happened) (Some []) now = Unit {0}
 Leaves (broke call ∷ happened) None now = Unit {0}
 
--- Where no call fails from now on, none of these failed, and none fails later.
+-- Where no call fails from now on, none of these failed, no failure was counted, and none fails later.
 abbrev pub NoCallFailed : NetSeen → NetSeen → List Happening → Type 0
 NoCallFailed before now happened =
-    before.never_fail ≡ true → (now.never_fail ≡ true) × (break_count happened ≡ 0)
+    before.never_fail ≡ true → (now.never_fail ≡ true) × (break_count happened ≡ 0) × (now.faults ≡ before.faults)
 
 -- From one time to another this happened and nothing else: it comes after what was recorded before; the events to come
 -- are those that are left by it; each failure was counted; and there is none where no call fails.

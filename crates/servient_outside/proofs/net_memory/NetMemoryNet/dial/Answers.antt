@@ -17,4 +17,4 @@ pub returns-clause-shows : goal.returns-clause-shows
 returns-clause-shows c =
     let n = c.args.self.now in
     let done = act.Dialled c.args.host.now c.args.port (Some 0) in
-    shows_call n c.keep_call-2.new.self done [] _ (c.keep_call-2.ensures.history done c.dialled-2.ensures) refl c.keep_call-2.ensures.left (ap (λ (x : CallCount). x.fails) c.keep_call-2.ensures.calls) (λ never. refl) (omega (arith, c.keep_call-2.ensures.faults)) refl
+    shows_call n c.keep_call-2.new.self done [] _ (c.keep_call-2.ensures.history done c.dialled-2.ensures) refl c.keep_call-2.ensures.left (ap (λ (x : CallCount). x.fails) c.keep_call-2.ensures.calls) (λ never. (refl, c.keep_call-2.ensures.faults)) (omega (arith, c.keep_call-2.ensures.faults)) refl

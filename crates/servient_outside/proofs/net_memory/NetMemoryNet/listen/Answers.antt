@@ -18,4 +18,4 @@ returns-clause-shows c =
     let n = c.args.self.now in
     let done = act.Listened c.args.place.now in
     let is = fails_now n.calls.fails n.calls.made _ c.is_next_failing-fails.ensures ∙ c.if-fails.false in
-    shows_call n c.keep_call.new.self done [] _ (c.keep_call.ensures.history done c.listened.ensures) (listen_went n.calls.fails n.calls.made c.args.place.now is) c.keep_call.ensures.left (ap (λ (x : CallCount). x.fails) c.keep_call.ensures.calls) (λ never. refl) (omega (arith, c.keep_call.ensures.faults)) refl
+    shows_call n c.keep_call.new.self done [] _ (c.keep_call.ensures.history done c.listened.ensures) (listen_went n.calls.fails n.calls.made c.args.place.now is) c.keep_call.ensures.left (ap (λ (x : CallCount). x.fails) c.keep_call.ensures.calls) (λ never. (refl, c.keep_call.ensures.faults)) (omega (arith, c.keep_call.ensures.faults)) refl

@@ -91,7 +91,7 @@ returns-then-self-len-clause-shows c =
           (λ counted kept. call_gave n.calls.fails n.events (stop_of n) n.calls.made _ n.given e (fails_now n.calls.fails n.calls.made _ c.next_fails.ensures.fails ∙ c.if-next_fails.false) (n.given_by_steps counted kept) c.at-next.ensures.item (slice_get_within _ _ _ c.at-next.ensures.item) ∙ ap (λ (x : EventWithBytes). heard x) (sym same));
       left = left_heard n.events n.calls.fails _ n.given n.uncounted _ e _ later (λ none counted. all_counted n.calls.fails n.events n.given n.log.since n.uncounted _ none counted n.since_in_bounds (slice_get_within _ _ _ c.at-next.ensures.item) (omega arith) c.uncounted_after-self.ensures.unchanged) c.at-next.ensures.item same;
       faults = omega arith;
-      no_failure = λ never. (ap none_fails later ∙ never, refl);
+      no_failure = λ never. (ap none_fails later ∙ never, refl, refl);
     }
 
 pub returns-then-self-len-clause-takes : goal.returns-then-self-len-clause-takes
@@ -111,5 +111,5 @@ returns-clause-shows c =
           (λ counted kept. call_stopped n.calls.fails n.events (stop_of n) n.calls.made _ n.given (fails_now n.calls.fails n.calls.made _ c.next_fails.ensures.fails ∙ c.if-next_fails.false) (n.given_by_steps counted kept) (omega arith) ∙ ap (λ (x : EventWithBytes). heard x) (sym (stop_in_buffer n.stop_moment c.args.buffer.now)));
       left = left_none n.events n.calls.fails n.given n.uncounted _ _ (drop_past n.given n.events (omega arith));
       faults = omega arith;
-      no_failure = λ never. (ap none_fails later ∙ never, refl);
+      no_failure = λ never. (ap none_fails later ∙ never, refl, refl);
     }

@@ -27,7 +27,7 @@ use Rattle.coap_bind.specs.Blocks.{block_reply, later_reply, added_reply}
 use Rattle.coap_bind.specs.Links.{method_reply}
 use Rattle.coap_bind.specs.Writing.{Reply, proxy_reply, option_reply, reply_of, coap_reply, ReplyHead, head_in}
 use Rattle.coap_bind.specs.Server.{Heard, ignored, answered_at_once, asked, with_id_used, with_kept, Replies, replied_at_once, duplicate_reply, wanted_in, block_arrival, Adds, IsAnsweredAtOnce, bad_option, bad_block, for_proxy, no_memory, later_block, joined, takes_no_other_verb, takes_no_body, asks_links}
-use Rattle.servient_laws.proofs.AlikeStates.{SameServer}
+use Rattle.servient_laws.specs.Determined.{SameServer}
 use Rattle.servient_laws.proofs.AlikeTables.{IsLast, same_with_reply}
 
 -- ---- replies to what was admitted last
@@ -98,10 +98,6 @@ pub repeated : (kind : RequestType) (o : Option (List ℕ)) → IsSettled (dupli
 repeated Confirmable (Some bytes) = tt
 repeated Confirmable None = tt
 repeated NonConfirmable o = tt
-
--- it isn't a reply that says that memory was wanting
-abbrev pub IsAmple : Heard → Type 0
-IsAmple h = (head : ReplyHead) (id : ℕ) → h ≡ answered_at_once (spelling (coap_reply (reply_of Memory) head id)) → ⊥
 
 pub first_fault : (fs : List AskFault) (f : AskFault) → slice_get fs 0 ≡ Some f → fs ≡ [] → ⊥
 first_fault fs f is none = not_first (subst (λ (x : List AskFault). slice_get x 0 ≡ Some f) none is)

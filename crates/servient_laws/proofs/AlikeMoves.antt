@@ -1,5 +1,5 @@
 -- The moves that two runs make alike: deliveries, replies, notifications, and what ends each event.
-use Rattle.std.proofs.Common.{◌≡◌, ℕ, Bool, List, [], ◌∷◌, map, Option, Some, None, refl, sym, ap, ap₂, subst, ◌∙◌}
+use Rattle.std.proofs.Common.{◌≡◌, ℕ, Bool, List, [], ◌∷◌, map, Option, Some, None, refl, sym, ap, ap₂, subst, ◌∙◌, inl}
 use Rattle.std.specs.Prelude.{unwrap_or}
 use Rattle.std.proofs.lemmas.Option.{same_Some}
 use Rattle.servient_base.specs.Moves.{Then, Until}
@@ -15,7 +15,8 @@ use Rattle.servient_outside.specs.Network.{did}
 use Rattle.servient_trace.specs.Trace.{Sighting, at_network}
 use Rattle.servient_core.specs.Machine.{State, OnHttp, OnCoap, Does, acts_of_reply, Sends, SendsIfAny, RepliesToWait, AnswersWait, MarksObservers, Delivers, DeliversEach, ClosesIdle, notification_bytes, SendsNotification, NothingIsDue, SendsNotifications, AnswersLateWait, EndsEvent}
 use Rattle.servient_core.specs.Keeping.{AnswersWaits, ClosesAllIdle, AnswersLateWaits}
-use Rattle.servient_laws.proofs.AlikeStates.{Alike, SameServer, Agree, AgreeAs, coap_changed, becomes_agree, joined, then_agree, each_agree, until_agree, passing_same, on_http, coap_agree}
+use Rattle.servient_laws.specs.Determined.{SameServer, Alike, Agree}
+use Rattle.servient_laws.proofs.AlikeStates.{AgreeAs, coap_changed, becomes_alike, becomes_agree, joined_alike, then_agree, each_agree, until_agree, passing_http, coap_agree}
 use Rattle.servient_laws.proofs.AlikeStreams.{woken_once, none_idle}
 use Rattle.servient_laws.proofs.AlikeObservers.{SameNotifications, same_emitted, same_next, same_bytes}
 
@@ -35,8 +36,7 @@ if_any_agree answers c (Some reply) s t u v a b alike p q on_a on_b = sends_agre
 
 wakes_agree : (answers : ℕ → Answer) (c : ℕ) (text : Option (List ℕ)) → AgreeAs answers (RepliesToWait c text) (RepliesToWait c text)
 wakes_agree answers c text =
-    passing_same answers (λ (reply : HttpReply). OnHttp (λ now. Wakes c text now reply.bytes reply.closes)) (Sends c)
-    (on_http answers (λ (reply : HttpReply) now. Wakes c text now reply.bytes reply.closes) (λ x y now h k l p q. woken_once c text x y now h k l p q))
+    passing_http answers (λ (reply : HttpReply) now. Wakes c text now reply.bytes reply.closes) (Sends c) (λ x y now h k l p q. woken_once c text x y now h k l p q)
     (sends_agree answers c)
 
 -- the oldest that waits, by two ways to find it in the connections and a text that it gets
@@ -91,13 +91,13 @@ notification_agrees : (answers : ℕ → Answer) → AgreeAs answers SendsNotifi
 notification_agrees answers s t u v a b alike (n, p) (k, q) on_a on_b =
     let both = next_of s t (Some n) (Some k) p.one.0 q.one.0 alike p.one.1 q.one.1 in
     let first : Agree p.first q.first p.mid q.mid =
-    becomes_agree (record s { coap = p.one.0 }) (record t { coap = q.one.0 }) p.mid q.mid [] [] p.first q.first (coap_changed s t p.one.0 q.one.0 alike both.1) refl p.one.2 q.one.2 in
+    becomes_alike (record s { coap = p.one.0 }) (record t { coap = q.one.0 }) p.mid q.mid [] [] p.first q.first (coap_changed s t p.one.0 q.one.0 alike both.1) refl p.one.2 q.one.2 in
     let values = ap₂ (λ (x : ThingState) (target : ℕ). unwrap_or (last_of target x.last) []) alike.thing both.0.target in
     let bytes : notification_bytes n s.thing ≡ notification_bytes k t.thing = same_bytes n k (unwrap_or (last_of n.target s.thing.last) []) (unwrap_or (last_of k.target t.thing.last) []) both.0 values in
     let second : Agree p.second q.second u v =
-    becomes_agree p.mid q.mid u v (at_network (did (act.Datagram n.to (notification_bytes n s.thing))) ∷ []) (at_network (did (act.Datagram k.to (notification_bytes k t.thing))) ∷ []) p.second q.second first.state
+    becomes_alike p.mid q.mid u v (at_network (did (act.Datagram n.to (notification_bytes n s.thing))) ∷ []) (at_network (did (act.Datagram k.to (notification_bytes k t.thing))) ∷ []) p.second q.second first.state
     (ap₂ (λ to (x : List ℕ). at_network (did (act.Datagram to x)) ∷ []) both.0.to bytes) p.other q.other in
-    joined p.first q.first p.second q.second a b p.mid q.mid u v first second p.whole q.whole
+    inl (joined_alike p.first q.first p.second q.second a b p.mid q.mid u v first second p.whole q.whole)
 
 due_or_not : (s t u : State) (a : List Sighting) → Alike s t → NothingIsDue s → SendsNotification t a u → ⊥
 due_or_not s t u a alike (c, none) (n, p) = (next_of s t None (Some n) c p.one.0 alike none p.one.1).0
@@ -112,8 +112,7 @@ notifications_agree answers =
 
 closes_agree : (answers : ℕ → Answer) → AgreeAs answers ClosesIdle ClosesIdle
 closes_agree answers =
-    passing_same answers (λ c. OnHttp (λ now h k. IsIdle c now h × Closes c h k)) (λ c. Does (act.Closed c ∷ []))
-    (on_http answers (λ (c : ℕ) now h k. IsIdle c now h × Closes c h k) closed)
+    passing_http answers (λ (c : ℕ) now h k. IsIdle c now h × Closes c h k) (λ c. Does (act.Closed c ∷ [])) closed
     (λ c. does_agree answers (act.Closed c ∷ []))
   where
     closed : (c d now : ℕ) (h k l : Streams) → IsIdle c now h × Closes c h k → IsIdle d now h × Closes d h l → (c ≡ d) × (k ≡ l)

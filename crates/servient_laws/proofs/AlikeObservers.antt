@@ -28,7 +28,7 @@ use Rattle.coap_blocks.specs.Bodies.{Body}
 use Rattle.coap_bind.specs.Writing.{observed, observe_options, notification, ReplyHead, head_in}
 use Rattle.coap_bind.specs.Server.{Replies, Answers, with_observers, with_next_id, with_notification_sent, with_emitted, SendsNext}
 use Rattle.coap_observe.specs.Watching.{with_emission}
-use Rattle.servient_laws.proofs.AlikeStates.{SameServer}
+use Rattle.servient_laws.specs.Determined.{SameServer}
 use Rattle.servient_laws.proofs.AlikeAnswers.{moved, same_replies, SameAsk}
 
 -- ---- registrations

@@ -1,90 +1,49 @@
--- Two runs with the same events and answers, in which there was memory enough, are seen alike.
-use Rattle.std.proofs.Common.{◌≡◌, ℕ, Bool, true, false, max, List, [], ◌∷◌, map, Option, Some, None, refl, sym, ap, subst, ◌∙◌, arith, inl, inr}
-use Rattle.std.specs.Prelude.{if◌then◌else◌}
-use Rattle.std.specs.List.{AllByRecursion}
-use Rattle.servient_base.specs.Moves.{Then}
+-- Two runs with the same events and answers are seen alike, up to a sign that memory was wanting.
+use Rattle.std.proofs.Common.{◌≡◌, ℕ, true, false, max, map, List, [], ◌∷◌, ◌++◌, Option, Some, None, refl, sym, ap, ap₂, subst, ◌∙◌, arith, inl, inr}
+use Rattle.std.specs.Prelude.{◌⊎◌}
+use Rattle.servient_base.specs.Moves.{Then, Each, Until, is_done, goes_on}
+use Rattle.coap_msg.specs.declared.block.Block.{Block}
 use Rattle.coap_msg.specs.declared.endpoint.Endpoint.{Endpoint}
-use Rattle.coap_msg.specs.Grammar.{spelling}
+use Rattle.coap_msg.specs.Grammar.{CoapMessage, Spells}
 use Rattle.thing_ops.specs.declared.outcome.Outcome.{Outcome}
 use Rattle.thing_ops.specs.declared.outcome.Outcome.TheVariants as outcome
+use Rattle.thing_ops.specs.Requests.{RequestSeen}
 use Rattle.thing_handler.specs.declared.handler.Answer.{Answer}
+use Rattle.thing_handler.specs.Turns.{HandlerCall}
 use Rattle.thing_site.specs.Site.{events_of}
-use Rattle.thing_state.specs.State.{State as ThingState}
-use Rattle.thing_core.specs.Thing.{Done}
-use Rattle.thing_core.specs.Determined.{HadMemory as WasAmple}
-use Rattle.coap_opts.specs.Reading.{AskSeen}
+use Rattle.thing_state.specs.State.{State as ThingState, Emission}
+use Rattle.thing_core.specs.Thing.{Done, Acts, refuses, has_no_memory, performs, only}
+use Rattle.thing_core.proofs.ApartLaws.{PartsAt, part_before}
+use Rattle.coap_opts.specs.Reading.{AskSeen, asked as what_is_asked}
 use Rattle.coap_bind.specs.declared.pending.PendingReply.{PendingReply}
-use Rattle.coap_bind.specs.declared.observing.Observing.{Observing}
-use Rattle.coap_bind.specs.declared.observing.Observing.TheVariants as observing
-use Rattle.coap_bind.specs.declared.observing.Effect.{Effect}
-use Rattle.coap_bind.specs.declared.observing.Effect.TheVariants as effect
 use Rattle.coap_bind.specs.declared.server.Server.{Server}
-use Rattle.coap_bind.specs.Observing.{effect_of, Watches, leaves, cancels, registers}
-use Rattle.coap_bind.specs.declared.blocks.BlockUse.{BlockUse}
-use Rattle.coap_bind.specs.declared.blocks.BlockUse.TheVariants as blocks
-use Rattle.coap_bind.specs.Blocks.{answer_reply}
-use Rattle.coap_bind.specs.Writing.{Reply, reply_of, observed, coap_reply, head_in}
-use Rattle.coap_bind.specs.Server.{Heard, ignored, answered_at_once, asked, Hears, Answers}
-use Rattle.coap_observe.specs.Watching.{Watching}
-use Rattle.http_bind.specs.Streams.{HttpReply, Streams, Taken, asks, wants_continue, is_faulty, interrupts, Opened, Ended, Lengthened, Takes, IsDry, Answers as AnswersRequest, lets_wait, sends_reply, Continues, Refuses}
-use Rattle.http_bind.specs.Replying.{reply}
+use Rattle.coap_bind.specs.declared.blocks.BlockWish.TheVariants as wanted
+use Rattle.coap_bind.specs.Writing.{reply_of, head_of, head_in, ReplyHead}
+use Rattle.coap_exchange.specs.Table.{Table}
+use Rattle.coap_bind.specs.Server.{Heard, ignored, answered_at_once, asked, wanted_in, with_parts, pending_of, pending_joined, Hears, Answers}
+use Rattle.http_bind.specs.Streams.{HttpReply, Streams, Taken, asks, wants_continue, is_faulty, interrupts, Opened, Ended, Lengthened, Takes, IsDry, Answers as AnswersRequest, Continues, Refuses}
 use Rattle.servient_outside.specs.declared.net.What.{What}
 use Rattle.servient_outside.specs.declared.net.What.TheVariants as what
 use Rattle.servient_outside.specs.declared.net.EventWithBytes.{EventWithBytes}
-use Rattle.servient_outside.specs.declared.net.Act.{Act}
 use Rattle.servient_outside.specs.declared.net.Act.TheVariants as act
 use Rattle.servient_outside.specs.Network.{heard, did}
-use Rattle.servient_trace.specs.Trace.{Sighting, at_network}
-use Rattle.servient_core.specs.Machine.{Site, State, start, OnHttp, OnCoap, Does, Sends, SendsIfAny, PerformsByHttp, observed_target, AnswersAsk, AnswersDatagram, HearsDatagram, AnswersMessage, AnswersTaken, TakesNextMessage, TakesEveryMessage, HearsPiece, PollsAndDelivers, DeliversEach, EndsEvent, Follows, Step, EventAndStep}
+use Rattle.servient_trace.specs.Trace.{Sighting, at_network, at_handler}
+use Rattle.servient_core.specs.Machine.{Site, State, start, OnHttp, OnCoap, Performs, observed_target, AnswersAsk, AnswersDatagram, HearsDatagram, DeliversEach, PerformsByHttp, Sends, SendsIfAny, AnswersMessage, AnswersTaken, TakesNextMessage, TakesEveryMessage, HearsPiece, PollsAndDelivers, EndsEvent, Follows, Step, EventAndStep, Run}
 use Rattle.servient_core.specs.Keeping.{Comes}
-use Rattle.servient_laws.specs.Determined.{TellsOfMemory, by_coap, by_http, HadMemory, Fits, RunsAreDetermined}
-use Rattle.servient_laws.proofs.AlikeStates.{Alike, Agree, AgreeAs, alike_self, coap_changed, fits_first, fits_rest, becomes_agree, joined, then_agree, each_agree, until_agree, passing_agree, passing_same, on_http, http_agree}
-use Rattle.servient_laws.proofs.AlikeAnswers.{SameAsk, SameHeard, IsAmple}
-use Rattle.servient_laws.proofs.AlikeServers.{same_hearing}
+use Rattle.servient_laws.specs.Determined.{by_http, IsSign, BringsBlock, SameTable, SameServer, Alike, Agree, AreAnswered, RunsAreDetermined}
+use Rattle.servient_laws.proofs.AlikeStates.{Agreed, AgreeAs, alike_self, coap_changed, fits_first, fits_rest, becomes_alike, becomes_agree, joined_alike, joined, then_agree, each_agree, server_back, alike_back, passing_http, on_http, http_agree}
+use Rattle.servient_laws.proofs.AlikeTables.{IsLast}
+use Rattle.servient_laws.proofs.AlikeAnswers.{SameAsk, SameHeard, same_replies}
+use Rattle.servient_laws.proofs.AlikeServers.{OutAtOnce, AnsweredElse, else_replied, else_asked, else_joined, HearAlike, hears_alike, first_refuses, second_refuses, same_hearing}
 use Rattle.servient_laws.proofs.AlikeObservers.{same_answers}
 use Rattle.servient_laws.proofs.AlikeStreams.{taken_once, dry_takes, answered_once}
 use Rattle.servient_laws.proofs.AlikeMoves.{does_agree, sends_agree, if_any_agree, deliveries_agree, ends_agree}
-use Rattle.servient_laws.proofs.AlikeRequests.{by_things, by_http as performed_by_http, poll_agrees}
-
--- ---- an act that tells of memory
-
-told : (answers : ℕ → Answer) (x : Act) (rest a : List Sighting) → a ≡ at_network (did x) ∷ rest → Fits answers a → TellsOfMemory x → ⊥
-told answers x rest a saw fits tells = (subst (λ (l : List Sighting). AllByRecursion HadMemory l) saw fits.had_memory).0 tells
+use Rattle.servient_laws.proofs.AlikeRequests.{memory_or_not, GoesOn, has_called, has_ended, Requested, as_one, parted, first_out, second_out, by_things, by_http as performed_by_http, poll_agrees, decided_calls}
+use Rattle.servient_laws.proofs.OwedReplies.{Owes, IsNoRefusal, BeginsOtherwise, Passed, passed_then, deliveries_pass, messages_pass, ends_pass, event_passes, events_pass}
+use Rattle.servient_laws.proofs.RefusedRequests.{part_here, sent_to, memory_bytes, sent_is_sign, sent_once, no_call_is_sent, RepliesOfMemory, refused_by, AnswerSeen, answer_seen, refusal_seen, other_seen, asks_part, sent_on, no_call_is_sent_on, sent_on_once, RefusedByHttp, refused_by_http, AnsweredByHttp, has_replied, has_to_wait, answered_by_http}
+use Rattle.servient_laws.proofs.RunParts.{BothRefuse, Told, Ran, agreed, refused, first_told, second_told, of_these, ran_after, ran_then, ran_determined}
 
 -- ---- CoAP
-
--- where memory was wanting, nobody is registered and no number is said
-no_effect : (o : Observing) (target : Option ℕ) → effect_of o outcome.Memory target ≡ effect.Nothing
-no_effect observing.Unchanged target = refl
-no_effect observing.Registers target = refl
-no_effect observing.Deregisters target = refl
-
-no_number : (does : Effect) (from : Endpoint) (token : List ℕ) (old new : Watching) (observe : Option ℕ) → does ≡ effect.Nothing → Watches does from token old observe new → observe ≡ None
-no_number does from token old new observe none (leaves is isnt same) = isnt
-no_number does from token old new observe none (cancels is isnt same) = isnt
-no_number does from token old new observe none (registers target r is move number) = absurd (let apart : effect.Nothing ≡ effect.Registers target = sym none ∙ is in cc)
-
--- want of memory is never said in blocks
-memory_is_whole : (x : BlockUse) → answer_reply x outcome.Memory ≡ reply_of outcome.Memory
-memory_is_whole blocks.Whole = refl
-memory_is_whole (blocks.Gives g) = refl
-memory_is_whole (blocks.Joined b) = refl
-
--- an answer that isn't the one for want of memory was of a request that wasn't out of it
-ask_is_ample : (answers : ℕ → Answer) (site : Site) (from : Endpoint) (ask : AskSeen) (r : PendingReply) (done : Done) (s u : State) (a : List Sighting) → AnswersAsk site from ask r done s a u → Fits answers a
-    → WasAmple done
-ask_is_ample answers site from ask r done s u a (bytes, w) fits memory =
-    let of_memory : Answers r outcome.Memory (observed_target site s.thing ask) bytes s.coap w.one.0 =
-    subst (λ (o : Outcome). Answers r o (observed_target site s.thing ask) bytes s.coap w.one.0) memory w.one.1 in
-    let none : of_memory.observe ≡ None =
-    no_number (effect_of r.observing outcome.Memory (observed_target site s.thing ask)) r.from r.token s.coap.observers of_memory.observers of_memory.observe
-    (no_effect r.observing (observed_target site s.thing ask)) of_memory.watches in
-    let is : bytes ≡ spelling (coap_reply (reply_of outcome.Memory) (head_in r) s.coap.next_id) =
-    of_memory.replies.bytes_are
-    ∙ ap (λ (o : Option ℕ). spelling (coap_reply (observed o (answer_reply r.blocks outcome.Memory)) (head_in r) s.coap.next_id)) none
-    ∙ ap (λ (x : Reply). spelling (coap_reply (observed None x) (head_in r) s.coap.next_id)) (memory_is_whole r.blocks) in
-    told answers (act.Datagram from bytes) [] w.second w.other.saw (fits_rest answers w.first w.second a w.whole fits)
-    (by_coap from (head_in r) s.coap.next_id (ap (λ (x : List ℕ). act.Datagram from x) is))
 
 answer_agrees : (site : Site) (from : Endpoint) (ask : AskSeen) (r q : PendingReply) (done : Done) (s t u v : State) (a b : List Sighting) → Alike s t → SameAsk r q s.coap t.coap
     → AnswersAsk site from ask r done s a u → AnswersAsk site from ask q done t b v → Agree a b u v
@@ -93,41 +52,68 @@ answer_agrees site from ask r q done s t u v a b alike same (x, w) (y, z) =
     subst (λ (k : ThingState). Answers q done.outcome (observed_target site k ask) y t.coap z.one.0) (sym alike.thing) z.one.1 in
     let both = same_answers r q done.outcome (observed_target site s.thing ask) x y s.coap t.coap w.one.0 z.one.0 alike.coap same w.one.1 there in
     let first : Agree w.first z.first w.mid z.mid =
-    becomes_agree (record s { coap = w.one.0 }) (record t { coap = z.one.0 }) w.mid z.mid [] [] w.first z.first (coap_changed s t w.one.0 z.one.0 alike both.1) refl w.one.2 z.one.2 in
+    becomes_alike (record s { coap = w.one.0 }) (record t { coap = z.one.0 }) w.mid z.mid [] [] w.first z.first (coap_changed s t w.one.0 z.one.0 alike both.1) refl w.one.2 z.one.2 in
     let second : Agree w.second z.second u v =
-    becomes_agree w.mid z.mid u v (at_network (did (act.Datagram from x)) ∷ []) (at_network (did (act.Datagram from y)) ∷ []) w.second z.second first.state
-    (ap (λ (bytes : List ℕ). at_network (did (act.Datagram from bytes)) ∷ []) both.0) w.other z.other in
-    joined w.first z.first w.second z.second a b w.mid z.mid u v first second w.whole z.whole
+    becomes_alike w.mid z.mid u v (sent_to from x ∷ []) (sent_to from y ∷ []) w.second z.second first.state (ap (λ (bytes : List ℕ). sent_to from bytes ∷ []) both.0) w.other z.other in
+    joined_alike w.first z.first w.second z.second a b w.mid z.mid u v first second w.whole z.whole
 
 -- a request is performed, answered and delivered
 asked_agrees : (answers : ℕ → Answer) (site : Site) (from : Endpoint) (ask : AskSeen) (r q : PendingReply) (s t u v : State) (a b : List Sighting) → Alike s t → SameAsk r q s.coap t.coap
-    → AnswersDatagram site from (asked ask r) s a u → AnswersDatagram site from (asked ask q) t b v → Fits answers a → Fits answers b → Agree a b u v
+    → AnswersDatagram site from (asked ask r) s a u → AnswersDatagram site from (asked ask q) t b v → AreAnswered answers a → AreAnswered answers b → Agreed a b u v
 asked_agrees answers site from ask r q s t u v a b alike same (x, p) (y, w) on_a on_b =
-    let a_two = fits_rest answers p.first p.second a p.whole on_a in
-    let b_two = fits_rest answers w.first w.second b w.whole on_b in
-    let on_x = ask_is_ample answers site from ask r x p.mid p.other.mid p.other.first p.other.one (fits_first answers p.other.first p.other.second p.second p.other.whole a_two) in
-    let on_y = ask_is_ample answers site from ask q y w.mid w.other.mid w.other.first w.other.one (fits_first answers w.other.first w.other.second w.second w.other.whole b_two) in
-    let first = by_things answers site ask.request x y s t p.mid w.mid p.first w.first alike p.one w.one (fits_first answers p.first p.second a p.whole on_a) (fits_first answers w.first w.second b w.whole on_b) on_x on_y in
-    let asks_there : SameAsk r q p.mid.coap w.mid.coap =
-    subst (λ (c : Server). SameAsk r q p.mid.coap c) (sym (ap (λ (z : State). z.coap) w.one.3.next))
-    (subst (λ (c : Server). SameAsk r q c t.coap) (sym (ap (λ (z : State). z.coap) p.one.3.next)) same) in
-    let there : Then (AnswersAsk site from ask q x) (DeliversEach x.emissions) w.mid w.second v =
-    subst (λ (z : Done). Then (AnswersAsk site from ask q z) (DeliversEach z.emissions) w.mid w.second v) (sym first.0) w.other in
-    let written : Agree p.other.first there.first p.other.mid there.mid =
-    answer_agrees site from ask r q x p.mid w.mid p.other.mid there.mid p.other.first there.first first.1.state asks_there p.other.one there.one in
-    let delivered : Agree p.other.second there.second u v =
-    deliveries_agree answers x.emissions p.other.mid there.mid u v p.other.second there.second written.state p.other.other there.other
-    (fits_rest answers p.other.first p.other.second p.second p.other.whole a_two) (fits_rest answers there.first there.second w.second there.whole b_two) in
-    let rest : Agree p.second w.second u v = joined p.other.first there.first p.other.second there.second p.second w.second p.other.mid there.mid u v written delivered p.other.whole there.whole in
-    joined p.first w.first p.second w.second a b p.mid w.mid u v first.1 rest p.whole w.whole
+    by (by_things answers site ask.request x y s t p.mid w.mid p.first w.first alike p.one w.one (fits_first answers p.first p.second a p.whole on_a) (fits_first answers w.first w.second b w.whole on_b))
+  where
+    a_two : AreAnswered answers p.second
+    a_two = fits_rest answers p.first p.second a p.whole on_a
+
+    b_two : AreAnswered answers w.second
+    b_two = fits_rest answers w.first w.second b w.whole on_b
+
+    a_is : a ≡ p.first ++ (p.other.first ++ p.other.second)
+    a_is = p.whole ∙ ap (λ (z : List Sighting). p.first ++ z) p.other.whole
+
+    b_is : b ≡ w.first ++ (w.other.first ++ w.other.second)
+    b_is = w.whole ∙ ap (λ (z : List Sighting). w.first ++ z) w.other.whole
+
+    after : x ≡ y → Agree p.first w.first p.mid w.mid → Agreed p.second w.second u v
+    after done first =
+        let asks_there : SameAsk r q p.mid.coap w.mid.coap =
+        subst (λ (c : Server). SameAsk r q p.mid.coap c) (sym (ap (λ (z : State). z.coap) w.one.3.next))
+        (subst (λ (c : Server). SameAsk r q c t.coap) (sym (ap (λ (z : State). z.coap) p.one.3.next)) same) in
+        let there : Then (AnswersAsk site from ask q x) (DeliversEach x.emissions) w.mid w.second v =
+        subst (λ (z : Done). Then (AnswersAsk site from ask q z) (DeliversEach z.emissions) w.mid w.second v) (sym done) w.other in
+        joined p.other.first there.first p.other.second there.second p.second w.second p.other.mid there.mid u v
+        (inl (answer_agrees site from ask r q x p.mid w.mid p.other.mid there.mid p.other.first there.first first.state asks_there p.other.one there.one))
+        (λ written. deliveries_agree answers x.emissions p.other.mid there.mid u v p.other.second there.second written.state p.other.other there.other
+        (fits_rest answers p.other.first p.other.second p.second p.other.whole a_two) (fits_rest answers there.first there.second w.second there.whole b_two))
+        p.other.whole there.whole
+
+    -- the next ids, which a request to a Thing doesn't change
+    first_id : p.mid.coap.next_id ≡ s.coap.next_id
+    first_id = ap (λ (z : State). z.coap.next_id) p.one.3.next
+
+    second_id : w.mid.coap.next_id ≡ t.coap.next_id
+    second_id = ap (λ (z : State). z.coap.next_id) w.one.3.next
+
+    ids : p.mid.coap.next_id ≡ w.mid.coap.next_id
+    ids = first_id ∙ alike.coap.next ∙ sym second_id
+
+    by : Requested x y p.first w.first p.mid w.mid → Agreed a b u v
+    by (as_one done first) = joined p.first w.first p.second w.second a b p.mid w.mid u v (inl first) (λ one. after done one) p.whole w.whole
+    by (parted parts) = inr (part_before IsSign p.first w.first p.second w.second a b p.whole w.whole parts)
+    by (first_out none is goes beside) =
+        inr (inl (subst (λ (z : List Sighting). PartsAt IsSign z b) (sym a_is) (subst (λ (z : List Sighting). PartsAt IsSign (p.first ++ (p.other.first ++ p.other.second)) z) (sym b_is)
+        (asks_part site from ask r q x y p.mid w.mid p.other.mid w.other.mid p.first w.first p.other.first w.other.first p.other.second w.other.second is goes same.head ids p.other.one w.other.one none))))
+    by (second_out none is goes beside) =
+        inr (inr (subst (λ (z : List Sighting). PartsAt IsSign z a) (sym b_is) (subst (λ (z : List Sighting). PartsAt IsSign (w.first ++ (w.other.first ++ w.other.second)) z) (sym a_is)
+        (asks_part site from ask q r y x w.mid p.mid w.other.mid p.other.mid w.first p.first w.other.first p.other.first w.other.second p.other.second is goes (sym same.head) (sym ids) w.other.one p.other.one none))))
 
 -- the answer to a datagram that was heard
 heard_agrees : (answers : ℕ → Answer) (site : Site) (from : Endpoint) (h k : Heard) (s t u v : State) (a b : List Sighting) → SameHeard h k s.coap t.coap → Alike s t
-    → AnswersDatagram site from h s a u → AnswersDatagram site from k t b v → Fits answers a → Fits answers b → Agree a b u v
+    → AnswersDatagram site from h s a u → AnswersDatagram site from k t b v → AreAnswered answers a → AreAnswered answers b → Agreed a b u v
 heard_agrees answers site from ignored ignored s t u v a b same alike p q on_a on_b = becomes_agree s t u v [] [] a b alike refl p q
 heard_agrees answers site from (answered_at_once x) (answered_at_once y) s t u v a b same alike p q on_a on_b =
-    becomes_agree s t u v (at_network (did (act.Datagram from x)) ∷ []) (at_network (did (act.Datagram from y)) ∷ []) a b alike
-    (ap (λ (bytes : List ℕ). at_network (did (act.Datagram from bytes)) ∷ []) same) p q
+    becomes_agree s t u v (sent_to from x ∷ []) (sent_to from y ∷ []) a b alike (ap (λ (bytes : List ℕ). sent_to from bytes ∷ []) same) p q
 heard_agrees answers site from (asked ask r) (asked other q) s t u v a b same alike p w on_a on_b =
     asked_agrees answers site from ask r q s t u v a b alike same.1 p (subst (λ (x : AskSeen). AnswersDatagram site from (asked x q) t b v) (sym same.0) w) on_a on_b
 heard_agrees answers site from ignored (answered_at_once y) s t u v a b same alike p q on_a on_b = absurd same
@@ -137,105 +123,404 @@ heard_agrees answers site from (answered_at_once x) (asked other q) s t u v a b 
 heard_agrees answers site from (asked ask r) ignored s t u v a b same alike p w on_a on_b = absurd same
 heard_agrees answers site from (asked ask r) (answered_at_once y) s t u v a b same alike p w on_a on_b = absurd same
 
--- the answer to a datagram is no reply for want of memory
-heard_is_ample : (answers : ℕ → Answer) (site : Site) (from : Endpoint) (h : Heard) (s u : State) (a : List Sighting) → AnswersDatagram site from h s a u → Fits answers a → IsAmple h
-heard_is_ample answers site from h s u a move fits head id is =
-    let does : Does (act.Datagram from (spelling (coap_reply (reply_of outcome.Memory) head id)) ∷ []) s a u = subst (λ (x : Heard). AnswersDatagram site from x s a u) is move in
-    told answers (act.Datagram from (spelling (coap_reply (reply_of outcome.Memory) head id))) [] a does.saw fits (by_coap from head id refl)
+-- ---- a request that is refused before it is asked
 
-datagram_agrees : (answers : ℕ → Answer) (site : Site) (from : Endpoint) (bytes : List ℕ) → AgreeAs answers (HearsDatagram site from bytes) (HearsDatagram site from bytes)
-datagram_agrees answers site from bytes s t u v a b alike (inl p) (inl q) on_a on_b = becomes_agree s t u v [] [] a b alike refl p.1 q.1
+-- What is seen of one that is asked begins with something else than its refusal; or it is refused, too.
+data AsksOrRefused (from : Endpoint) (r : PendingReply) (t : State) (b : List Sighting) (v : State) : Type 0 where
+  asks_otherwise : (y : Sighting) (other : List Sighting) → b ≡ y ∷ other → (y ≡ sent_to from (memory_bytes (head_in r) t.coap.next_id) → ⊥) → AsksOrRefused from r t b v
+  is_refused : (bytes : List ℕ) (d : Server) → b ≡ sent_to from (memory_bytes (head_in r) t.coap.next_id) ∷ [] → RepliesOfMemory r bytes t.coap d → v ≡ record t { coap = d } → AsksOrRefused from r t b v
+
+-- one that made no call and was out of memory did nothing
+did_nothing : (site : Site) (q : RequestSeen) (done : Done) (s t : ThingState) (calls : List HandlerCall) → Acts site q done s calls t → calls ≡ [] → done.outcome ≡ outcome.Memory
+    → (done ≡ only outcome.Memory) × (t ≡ s)
+did_nothing site q done s t calls (has_no_memory answers) none memory = (answers.0, answers.1.next)
+did_nothing site q done s t calls (refuses o is answers) none memory = absurd (decided_calls site q done s t calls (refuses o is answers) tt none memory)
+did_nothing site q done s t calls (performs act inputs free found given move) none memory = absurd (decided_calls site q done s t calls (performs act inputs free found given move) tt none memory)
+
+asks_or_refused : (site : Site) (from : Endpoint) (ask : AskSeen) (r : PendingReply) (t v : State) (b : List Sighting) → AnswersDatagram site from (asked ask r) t b v → AsksOrRefused from r t b v
+asks_or_refused site from ask r t v b (y, w) = by w.one.1 refl (memory_or_not y.outcome)
+  where
+    id : w.mid.coap.next_id ≡ t.coap.next_id
+    id = ap (λ (z : State). z.coap.next_id) w.one.3.next
+
+    e : AnswerSeen from r y.outcome (observed_target site w.mid.thing ask) w.mid w.other.first w.other.mid
+    e = answer_seen site from ask r y w.mid w.other.mid w.other.first w.other.one
+
+    b_is : (calls : List HandlerCall) → w.one.1 ≡ calls → b ≡ map at_handler calls ++ (w.other.first ++ w.other.second)
+    b_is calls is = w.whole ∙ ap₂ (λ (z l : List Sighting). z ++ l) (w.one.3.saw ∙ ap (λ (cs : List HandlerCall). map at_handler cs) is) w.other.whole
+
+    by : (calls : List HandlerCall) → w.one.1 ≡ calls → (y.outcome ≡ outcome.Memory) ⊎ (y.outcome ≡ outcome.Memory → ⊥) → AsksOrRefused from r t b v
+    by (c ∷ calls) is memory =
+        asks_otherwise (at_handler c) (map at_handler calls ++ (w.other.first ++ w.other.second)) (b_is (c ∷ calls) is) (no_call_is_sent c from (memory_bytes (head_in r) t.coap.next_id))
+    by [] is (inr isnt) =
+        asks_otherwise (sent_to from e.bytes) w.other.second (b_is [] is ∙ ap (λ (z : List Sighting). z ++ w.other.second) e.seen)
+        (λ same. other_seen from r y.outcome (observed_target site w.mid.thing ask) w.mid w.other.mid w.other.first isnt e
+        (sent_once from e.bytes (memory_bytes (head_in r) t.coap.next_id) same ∙ ap (λ (n : ℕ). memory_bytes (head_in r) n) (sym id)))
+    by [] is (inl memory) =
+        let nothing = did_nothing site ask.request y t.thing w.one.0 w.one.1 w.one.2 is memory in
+        let mid_is : w.mid ≡ t = w.one.3.next ∙ ap (λ (k : ThingState). record t { thing = k }) nothing.1 in
+        let delivered : DeliversEach [] w.other.mid w.other.second v = subst (λ (es : List Emission). DeliversEach es w.other.mid w.other.second v) (ap (λ (d : Done). d.emissions) nothing.0) w.other.other in
+        let seen = refusal_seen from r y.outcome (observed_target site w.mid.thing ask) w.mid w.other.mid w.other.first memory e in
+        is_refused e.bytes e.coap
+        (b_is [] is ∙ ap₂ (λ (z l : List Sighting). z ++ l) (seen ∙ ap (λ (n : ℕ). sent_to from (memory_bytes (head_in r) n) ∷ []) id) delivered.saw)
+        (subst (λ (z : State). RepliesOfMemory r e.bytes z.coap e.coap) mid_is (refused_by r y.outcome (observed_target site w.mid.thing ask) e.bytes w.mid.coap e.coap memory e.answers))
+        (delivered.next ∙ e.after ∙ ap (λ (z : State). record z { coap = e.coap }) mid_is)
+
+-- both begin with the same sign
+record BothBegin (a b : List Sighting) : Type 0 where
+  sign : Sighting
+  later : List Sighting
+  other : List Sighting
+  first : a ≡ sign ∷ later
+  second : b ≡ sign ∷ other
+  is_sign : IsSign sign
+
+-- these bytes are a message that brings a block of a request
+record AreBlock (bytes : List ℕ) : Type 0 where
+  message : CoapMessage
+  spells : Spells message bytes
+  block : Block
+  joins : wanted_in message ≡ wanted.Joining block
+
+-- Two that hear a datagram agree; or it brings a block, which both refuse.
+data HeardBoth (bytes : List ℕ) (a b : List Sighting) (u v : State) : Type 0 where
+  both_agree : Agreed a b u v → HeardBoth bytes a b u v
+  both_refuse : AreBlock bytes → BothBegin a b → HeardBoth bytes a b u v
+
+heard_back : (bytes : List ℕ) (a b : List Sighting) (u v : State) → HeardBoth bytes a b u v → HeardBoth bytes b a v u
+heard_back bytes a b u v (both_agree (inl one)) = both_agree (inl (record { seen = sym one.seen; state = alike_back u v one.state }))
+heard_back bytes a b u v (both_agree (inr (inl e))) = both_agree (inr (inr e))
+heard_back bytes a b u v (both_agree (inr (inr e))) = both_agree (inr (inl e))
+heard_back bytes a b u v (both_refuse is both) =
+    both_refuse is (record { sign = both.sign; later = both.other; other = both.later; first = both.second; second = both.first; is_sign = both.is_sign })
+
+-- the one is refused at once
+refused_at_once : (site : Site) (from : Endpoint) (bytes : List ℕ) (now : ℕ) (m : CoapMessage) (slot other : ℕ) (h k : Heard) (c d : Server) (s t u v : State) (a b : List Sighting)
+    → Spells m bytes → SameServer c d → IsLast slot c.exchanges → IsLast other d.exchanges → OutAtOnce m slot h c s.coap → AnsweredElse from now m other k d t.coap
+    → ((x y : Server) → SameServer x y → Alike (record s { coap = x }) (record t { coap = y })) → AnswersDatagram site from h s a u → AnswersDatagram site from k t b v → HeardBoth bytes a b u v
+refused_at_once site from bytes now m slot other h k c d s t u v a b spells same l n out otherwise alike one two = by otherwise
+  where
+    refusal : List ℕ
+    refusal = memory_bytes (head_of m) d.next_id
+
+    bytes_are : out.bytes ≡ refusal
+    bytes_are = out.replies.bytes_are ∙ ap (λ (i : ℕ). memory_bytes (head_of m) i) same.next
+
+    does : AnswersDatagram site from (answered_at_once out.bytes) s a u
+    does = subst (λ (x : Heard). AnswersDatagram site from x s a u) out.is one
+
+    seen : a ≡ sent_to from refusal ∷ []
+    seen = does.saw ∙ ap (λ (x : List ℕ). sent_to from x ∷ []) bytes_are
+
+    parts : (y : Sighting) (more : List Sighting) → b ≡ y ∷ more → (y ≡ sent_to from refusal → ⊥) → HeardBoth bytes a b u v
+    parts y more saw apart = both_agree (inr (inl (part_here (sent_to from refusal) y [] more a b (sent_is_sign from (head_of m) d.next_id) apart seen saw)))
+
+    -- the other is asked, by a server of this next id, with a pending reply of this head
+    by_asking : (r : PendingReply) → head_in r ≡ head_of m → t.coap.next_id ≡ d.next_id
+        → ((e : List ℕ) (f : Server) → b ≡ sent_to from refusal ∷ [] → RepliesOfMemory r e t.coap f → v ≡ record t { coap = f } → HeardBoth bytes a b u v)
+        → AsksOrRefused from r t b v → HeardBoth bytes a b u v
+    by_asking r heads ids both (asks_otherwise y more saw apart) =
+        parts y more saw (λ is. apart (is ∙ ap₂ (λ (p : ReplyHead) (i : ℕ). sent_to from (memory_bytes p i)) (sym heads) (sym ids)))
+    by_asking r heads ids both (is_refused e f saw replies after) =
+        both e f (saw ∙ ap₂ (λ (p : ReplyHead) (i : ℕ). sent_to from (memory_bytes p i) ∷ []) heads ids) replies after
+
+    -- it is refused, too, and the servers are alike
+    refused_too : t.coap ≡ d → (e : List ℕ) (f : Server) → b ≡ sent_to from refusal ∷ [] → RepliesOfMemory (pending_of from now m other) e t.coap f → v ≡ record t { coap = f } → HeardBoth bytes a b u v
+    refused_too stay e f saw replies after =
+        let tables : replies.between.exchanges ≡ d.exchanges = replies.table ∙ ap (λ (x : Server). x.exchanges) stay in
+        let servers : SameServer (with_parts out.parts c) replies.between = record {
+          table = subst (λ (x : Table). SameTable c.exchanges x) (sym tables) same.table;
+          observers = same.observers ∙ sym (replies.observers ∙ ap (λ (x : Server). x.observers) stay);
+          next = same.next ∙ sym (replies.next ∙ ap (λ (x : Server). x.next_id) stay);
+          bodies = same.bodies ∙ sym (replies.bodies ∙ ap (λ (x : Server). x.bodies) stay);
+          parts = out.stay ∙ same.parts ∙ sym (replies.parts ∙ ap (λ (x : Server). x.parts) stay);
+          links = same.links ∙ sym (replies.links ∙ ap (λ (x : Server). x.links) stay);
+        } in
+        let both = same_replies (reply_of outcome.Memory) (head_of m) slot (head_in (pending_of from now m other)) other out.bytes e (with_parts out.parts c) replies.between s.coap f servers refl l
+        (subst (λ (x : Table). IsLast other x) (sym tables) n) out.replies replies.replies in
+        both_agree (inl (record {
+          seen = seen ∙ sym saw;
+          state = subst (λ (x : State). Alike u x) (sym after) (subst (λ (x : State). Alike x (record t { coap = f })) (sym does.next) (alike s.coap f both.1));
+        }))
+
+    by : AnsweredElse from now m other k d t.coap → HeardBoth bytes a b u v
+    by (else_replied x is isnt) =
+        let sends : AnswersDatagram site from (answered_at_once x) t b v = subst (λ (y : Heard). AnswersDatagram site from y t b v) is two in
+        parts (sent_to from x) [] sends.saw (λ like. isnt (sent_once from x refusal like))
+    by (else_asked is stay) =
+        by_asking (pending_of from now m other) refl (ap (λ (x : Server). x.next_id) stay) (refused_too stay)
+        (asks_or_refused site from (what_is_asked m) (pending_of from now m other) t v b (subst (λ (y : Heard). AnswersDatagram site from y t b v) is two))
+    by (else_joined block ask joins is stay) =
+        by_asking (pending_joined from m other block) refl stay
+        (λ e f saw replies after. both_refuse (record { message = m; spells = spells; block = block; joins = joins })
+        (record { sign = sent_to from refusal; later = []; other = []; first = seen; second = saw; is_sign = sent_is_sign from (head_of m) d.next_id }))
+        (asks_or_refused site from ask (pending_joined from m other block) t v b (subst (λ (y : Heard). AnswersDatagram site from y t b v) is two))
+
+datagram_agrees : (answers : ℕ → Answer) (site : Site) (from : Endpoint) (bytes : List ℕ) (s t u v : State) (a b : List Sighting) → Alike s t
+    → HearsDatagram site from bytes s a u → HearsDatagram site from bytes t b v → AreAnswered answers a → AreAnswered answers b → HeardBoth bytes a b u v
+datagram_agrees answers site from bytes s t u v a b alike (inl p) (inl q) on_a on_b = both_agree (becomes_agree s t u v [] [] a b alike refl p.1 q.1)
 datagram_agrees answers site from bytes s t u v a b alike (inl p) (inr q) on_a on_b = absurd (omega (arith, p.0, q.0))
 datagram_agrees answers site from bytes s t u v a b alike (inr p) (inl q) on_a on_b = absurd (omega (arith, p.0, q.0))
-datagram_agrees answers site from bytes s t u v a b alike (inr p) (inr q) on_a on_b =
-    passing_agree answers (λ h k x y. SameHeard h k x.coap y.coap) IsAmple (λ h. OnCoap (λ now. Hears from bytes now h)) (AnswersDatagram site from) hears
-    (λ h x y seen move fits. heard_is_ample answers site from h x y seen move fits) (heard_agrees answers site from) s t u v a b alike p.1 q.1 on_a on_b
+datagram_agrees answers site from bytes s t u v a b alike (inr (short, (h, p))) (inr (short', (k, q))) on_a on_b =
+    by (same_hearing from bytes s.moment h k s.coap t.coap p.one.0 q.one.0 alike.coap p.one.1 (subst (λ (now : ℕ). Hears from bytes now k t.coap q.one.0) (sym alike.moment) q.one.1))
   where
-    hears : (h k : Heard) (s t u v : State) (a b : List Sighting) → Alike s t → OnCoap (λ now. Hears from bytes now h) s a u → OnCoap (λ now. Hears from bytes now k) t b v → Fits answers a → Fits answers b
-        → IsAmple h → IsAmple k → SameHeard h k u.coap v.coap × Agree a b u v
-    hears h k s t u v a b alike (c, one, at) (d, other, at') on_a on_b on_h on_k =
-        let both = same_hearing from bytes s.moment h k s.coap t.coap c d alike.coap on_h on_k one (subst (λ (now : ℕ). Hears from bytes now k t.coap d) (sym alike.moment) other) in
-        let there : SameHeard h k u.coap v.coap =
-        subst (λ (x : Server). SameHeard h k u.coap x) (sym (ap (λ (z : State). z.coap) at'.next)) (subst (λ (x : Server). SameHeard h k x d) (sym (ap (λ (z : State). z.coap) at.next)) both.0) in
-        (there, becomes_agree (record s { coap = c }) (record t { coap = d }) u v [] [] a b (coap_changed s t c d alike both.1) refl at at')
+    first_is : p.mid ≡ record s { coap = p.one.0 }
+    first_is = p.one.2.next
+
+    second_is : q.mid ≡ record t { coap = q.one.0 }
+    second_is = q.one.2.next
+
+    a_is : a ≡ p.second
+    a_is = p.whole ∙ ap (λ (x : List Sighting). x ++ p.second) p.one.2.saw
+
+    b_is : b ≡ q.second
+    b_is = q.whole ∙ ap (λ (x : List Sighting). x ++ q.second) q.one.2.saw
+
+    with_servers : (x y : Server) → SameServer x y → Alike (record p.mid { coap = x }) (record q.mid { coap = y })
+    with_servers x y same =
+        subst (λ (m : State). Alike (record m { coap = x }) (record q.mid { coap = y })) (sym first_is)
+        (subst (λ (m : State). Alike (record s { coap = x }) (record m { coap = y })) (sym second_is) (coap_changed s t x y alike same))
+
+    heard : HeardBoth bytes p.second q.second u v → HeardBoth bytes a b u v
+    heard both = subst (λ (x : List Sighting). HeardBoth bytes x b u v) (sym a_is) (subst (λ (x : List Sighting). HeardBoth bytes p.second x u v) (sym b_is) both)
+
+    by : HearAlike from bytes s.moment h k p.one.0 q.one.0 → HeardBoth bytes a b u v
+    by (hears_alike same servers) =
+        let there : SameHeard h k p.mid.coap q.mid.coap =
+        subst (λ (x : Server). SameHeard h k p.mid.coap x) (sym (ap (λ (z : State). z.coap) second_is)) (subst (λ (x : Server). SameHeard h k x q.one.0) (sym (ap (λ (z : State). z.coap) first_is)) same) in
+        let first : Agree p.first q.first p.mid q.mid =
+        becomes_alike (record s { coap = p.one.0 }) (record t { coap = q.one.0 }) p.mid q.mid [] [] p.first q.first (coap_changed s t p.one.0 q.one.0 alike servers) refl p.one.2 q.one.2 in
+        both_agree (joined p.first q.first p.second q.second a b p.mid q.mid u v (inl first)
+        (λ one. heard_agrees answers site from h k p.mid q.mid u v p.second q.second there one.state p.other q.other
+        (fits_rest answers p.first p.second a p.whole on_a) (fits_rest answers q.first q.second b q.whole on_b)) p.whole q.whole)
+    by (first_refuses m slot other c d spells same l n out otherwise) =
+        heard (refused_at_once site from bytes s.moment m slot other h k c d p.mid q.mid u v p.second q.second spells same l n
+        (subst (λ (x : Server). OutAtOnce m slot h c x) (sym (ap (λ (z : State). z.coap) first_is)) out)
+        (subst (λ (x : Server). AnsweredElse from s.moment m other k d x) (sym (ap (λ (z : State). z.coap) second_is)) otherwise) with_servers p.other q.other)
+    by (second_refuses m slot other c d spells same l n out otherwise) =
+        heard (heard_back bytes q.second p.second v u
+        (refused_at_once site from bytes s.moment m other slot k h d c q.mid p.mid v u q.second p.second spells (server_back c d same) n l
+        (subst (λ (x : Server). OutAtOnce m other k d x) (sym (ap (λ (z : State). z.coap) second_is)) out)
+        (subst (λ (x : Server). AnsweredElse from s.moment m slot h c x) (sym (ap (λ (z : State). z.coap) first_is)) otherwise)
+        (λ x y same. alike_back (record p.mid { coap = y }) (record q.mid { coap = x }) (with_servers y x (server_back x y same))) q.other p.other))
 
 -- ---- HTTP
 
--- a reply that isn't the one for want of memory was to a request that wasn't out of it
-message_is_ample : (answers : ℕ → Answer) (c : ℕ) (done : Done) (s u : State) (a : List Sighting) → AnswersMessage c done s a u → Fits answers a → WasAmple done
-message_is_ample answers c done s u a (sent, w) fits memory = by sent w.one.1 w.other
-  where
-    closing : Bool → List Act
-    closing closes = if closes then act.Closed c ∷ [] else []
-
-    by : (sent : Option HttpReply) → AnswersRequest c done.outcome s.moment sent s.http w.one.0 → SendsIfAny c sent w.mid w.second u → ⊥
-    by sent (lets_wait target is waits none) sends = absurd (let apart : outcome.Memory ≡ outcome.Wait target = sym memory ∙ is in cc)
-    by sent (sends_reply bytes closes none replies is) sends =
-        let does : Sends c (record { bytes = bytes; closes = closes }) w.mid w.second u = subst (λ (x : Option HttpReply). SendsIfAny c x w.mid w.second u) is sends in
-        let of_memory = subst (λ (o : Outcome). reply replies.1.bodiless closes o ≡ Some bytes) memory replies.5 in
-        told answers (act.Sent c bytes) (map (λ x. at_network (did x)) (closing closes)) w.second does.saw (fits_rest answers w.first w.second a w.whole fits)
-        (by_http c replies.1.bodiless closes bytes of_memory refl)
-
 message_agrees : (answers : ℕ → Answer) (c : ℕ) (done : Done) → AgreeAs answers (AnswersMessage c done) (AnswersMessage c done)
 message_agrees answers c done =
-    passing_same answers (λ (reply : Option HttpReply). OnHttp (λ now. AnswersRequest c done.outcome now reply)) (SendsIfAny c)
-    (on_http answers (λ (reply : Option HttpReply) now. AnswersRequest c done.outcome now reply) (λ x y now h k l p q. answered_once c done.outcome x y now h k l p q))
-    (if_any_agree answers c)
+    passing_http answers (λ (reply : Option HttpReply) now. AnswersRequest c done.outcome now reply) (SendsIfAny c)
+    (λ x y now h k l p q. answered_once c done.outcome x y now h k l p q) (if_any_agree answers c)
 
-taken_agrees : (answers : ℕ → Answer) (site : Site) (c : ℕ) (taken : Taken) → AgreeAs answers (AnswersTaken site c taken) (AnswersTaken site c taken)
-taken_agrees answers site c (asks q) s t u v a b alike p w on_a on_b =
-    passing_agree answers (λ x y s t. x ≡ y) WasAmple (PerformsByHttp site q) (λ done. Then (AnswersMessage c done) (DeliversEach done.emissions))
-    (performed_by_http answers site q)
-    (λ done s u a move fits. message_is_ample answers c done s move.mid move.first move.one (fits_first answers move.first move.second a move.whole fits))
-    (λ x y s t u v a b same alike p w on_a on_b.
-    then_agree answers (AnswersMessage c x) (AnswersMessage c x) (DeliversEach x.emissions) (DeliversEach x.emissions) (message_agrees answers c x) (deliveries_agree answers x.emissions)
-    s t u v a b alike p (subst (λ (z : Done). Then (AnswersMessage c z) (DeliversEach z.emissions) t b v) (sym same) w) on_a on_b)
-    s t u v a b alike p w on_a on_b
-taken_agrees answers site c wants_continue s t u v a b alike p w on_a on_b =
-    passing_same answers (λ (bytes : List ℕ). OnHttp (λ now. Continues bytes)) (λ bytes. Sends c (record { bytes = bytes; closes = false }))
-    (on_http answers (λ (bytes : List ℕ) now. Continues bytes) (λ x y now h k l p q. (p.0 ∙ sym q.0, p.1 ∙ sym q.1)))
-    (λ bytes. sends_agree answers c (record { bytes = bytes; closes = false })) s t u v a b alike p w on_a on_b
-taken_agrees answers site c (is_faulty status) s t u v a b alike p w on_a on_b =
-    passing_same answers (λ (bytes : List ℕ). OnHttp (λ now. Refuses c status bytes)) (λ bytes. Sends c (record { bytes = bytes; closes = true }))
-    (on_http answers (λ (bytes : List ℕ) now. Refuses c status bytes) (λ x y now h k l p q. (p.0 ∙ sym q.0, p.1 ∙ sym q.1)))
-    (λ bytes. sends_agree answers c (record { bytes = bytes; closes = true })) s t u v a b alike p w on_a on_b
-taken_agrees answers site c interrupts s t u v a b alike p w on_a on_b = does_agree answers (act.Closed c ∷ []) s t u v a b alike p w on_a on_b
-
-piece_agrees : (answers : ℕ → Answer) (site : Site) (c : ℕ) (bytes : List ℕ) → AgreeAs answers (HearsPiece site c bytes) (HearsPiece site c bytes)
-piece_agrees answers site c bytes =
-    then_agree answers (OnHttp (Lengthened c bytes)) (OnHttp (Lengthened c bytes)) (TakesEveryMessage site c) (TakesEveryMessage site c)
-    (http_agree answers (Lengthened c bytes) (λ now h k l p q. p ∙ sym q))
-    (until_agree answers (TakesNextMessage site c) (λ s. IsDry c s.http)
-    (passing_same answers (λ taken. OnHttp (λ now. Takes c taken)) (AnswersTaken site c) (on_http answers (λ (taken : Taken) now. Takes c taken) (λ x y now h k l p q. taken_once c x y h k l p q))
-    (taken_agrees answers site c))
-    apart)
+-- A request of one connection was refused before its first call in one run, and the same one goes on in another: they
+-- part, or it waits there and nothing more is seen.
+messages_part : (c : ℕ) (x y : Done) (m n k l v : State) (a b first second more other seen shown : List Sighting) → x ≡ only outcome.Memory → GoesOn b y
+    → AnswersMessage c x m first k → AnswersMessage c y n second l → DeliversEach y.emissions l other v → a ≡ [] → seen ≡ a ++ (first ++ more) → shown ≡ b ++ (second ++ other)
+    → PartsAt IsSign seen shown ⊎ Told (λ d. d ≡ c) seen shown v
+messages_part c x y m n k l v a b first second more other seen shown is goes one two delivers none whole all = by goes
   where
-    apart : (s t u : State) (a : List Sighting) → Alike s t → IsDry c s.http → TakesNextMessage site c t a u → ⊥
-    apart s t u a alike dry (taken, move) = dry_takes c taken t.http move.one.0 (subst (λ (h : Streams). IsDry c h) alike.http dry) move.one.1
+    r : RefusedByHttp c first
+    r = refused_by_http c x m k first (ap (λ (d : Done). d.outcome) is) one
+
+    sign : Sighting
+    sign = sent_on c r.bytes
+
+    is_sign : IsSign sign
+    is_sign = by_http c r.bodiless r.closes r.bytes r.says refl
+
+    begins : seen ≡ sign ∷ (r.more ++ more)
+    begins = whole ∙ ap₂ (λ (z w : List Sighting). z ++ (w ++ more)) none r.seen
+
+    parts : (z : Sighting) (rest : List Sighting) → IsNoRefusal c z → shown ≡ z ∷ rest → PartsAt IsSign seen shown ⊎ Told (λ d. d ≡ c) seen shown v
+    parts z rest isnt saw = inl (part_here sign z (r.more ++ more) rest seen shown is_sign (isnt r.bodiless r.closes r.bytes r.says) begins saw)
+
+    waits : b ≡ [] → second ≡ [] → Passed c other v → PartsAt IsSign seen shown ⊎ Told (λ d. d ≡ c) seen shown v
+    waits nothing silent (inr otherwise) =
+        parts otherwise.instead otherwise.other otherwise.is_no_refusal (all ∙ ap₂ (λ (z w : List Sighting). z ++ (w ++ other)) nothing silent ∙ otherwise.whole)
+    waits nothing silent (inl (quiet, owes)) =
+        let shown_is : shown ≡ [] = all ∙ ap₂ (λ (z w : List Sighting). z ++ (w ++ other)) nothing silent ∙ quiet in
+        inr (record {
+          connection = c;
+          of = refl;
+          sign = sign;
+          rest = r.more ++ more;
+          whole = begins ∙ ap (λ (z : List Sighting). z ++ sign ∷ (r.more ++ more)) (sym shown_is);
+          is_sign = is_sign;
+          refuses = λ z isnt. isnt r.bodiless r.closes r.bytes r.says;
+          owes = owes;
+        })
+
+    answered : b ≡ [] → AnsweredByHttp c second l → PartsAt IsSign seen shown ⊎ Told (λ d. d ≡ c) seen shown v
+    answered nothing (has_replied bytes rest saw isnt) = parts (sent_on c bytes) (rest ++ other) isnt (all ∙ ap₂ (λ (z w : List Sighting). z ++ (w ++ other)) nothing saw)
+    answered nothing (has_to_wait silent owes) = waits nothing silent (deliveries_pass c y.emissions l v other owes delivers)
+
+    by : GoesOn b y → PartsAt IsSign seen shown ⊎ Told (λ d. d ≡ c) seen shown v
+    by (has_called h rest called) =
+        parts (at_handler h) (rest ++ (second ++ other)) (λ bodiless closes bytes says same. no_call_is_sent_on h c bytes same) (all ∙ ap (λ (z : List Sighting). z ++ (second ++ other)) called)
+    by (has_ended nothing isnt) = answered nothing (answered_by_http c y n l second isnt two)
+
+request_ran : (answers : ℕ → Answer) (site : Site) (c : ℕ) (q : RequestSeen) (s t u v : State) (a b : List Sighting) → Alike s t
+    → AnswersTaken site c (asks q) s a u → AnswersTaken site c (asks q) t b v → AreAnswered answers a → AreAnswered answers b → Ran (λ d. d ≡ c) a b u v
+request_ran answers site c q s t u v a b alike (x, p) (y, w) on_a on_b =
+    by (performed_by_http answers site q x y s t p.mid w.mid p.first w.first alike p.one w.one (fits_first answers p.first p.second a p.whole on_a) (fits_first answers w.first w.second b w.whole on_b))
+  where
+    a_is : a ≡ p.first ++ (p.other.first ++ p.other.second)
+    a_is = p.whole ∙ ap (λ (z : List Sighting). p.first ++ z) p.other.whole
+
+    b_is : b ≡ w.first ++ (w.other.first ++ w.other.second)
+    b_is = w.whole ∙ ap (λ (z : List Sighting). w.first ++ z) w.other.whole
+
+    told : PartsAt IsSign a b ⊎ Told (λ d. d ≡ c) a b v → Ran (λ d. d ≡ c) a b u v
+    told (inl e) = agreed (inr (inl e))
+    told (inr e) = first_told e
+
+    told_back : PartsAt IsSign b a ⊎ Told (λ d. d ≡ c) b a u → Ran (λ d. d ≡ c) a b u v
+    told_back (inl e) = agreed (inr (inr e))
+    told_back (inr e) = second_told e
+
+    by : Requested x y p.first w.first p.mid w.mid → Ran (λ d. d ≡ c) a b u v
+    by (as_one same first) =
+        agreed (joined p.first w.first p.second w.second a b p.mid w.mid u v (inl first)
+        (λ one. then_agree answers (AnswersMessage c x) (AnswersMessage c x) (DeliversEach x.emissions) (DeliversEach x.emissions) (message_agrees answers c x) (deliveries_agree answers x.emissions)
+        p.mid w.mid u v p.second w.second one.state p.other (subst (λ (z : Done). Then (AnswersMessage c z) (DeliversEach z.emissions) w.mid w.second v) (sym same) w.other)
+        (fits_rest answers p.first p.second a p.whole on_a) (fits_rest answers w.first w.second b w.whole on_b)) p.whole w.whole)
+    by (parted parts) = agreed (inr (part_before IsSign p.first w.first p.second w.second a b p.whole w.whole parts))
+    by (first_out none is goes beside) =
+        told (messages_part c x y p.mid w.mid p.other.mid w.other.mid v p.first w.first p.other.first w.other.first p.other.second w.other.second a b is goes p.other.one w.other.one w.other.other none a_is b_is)
+    by (second_out none is goes beside) =
+        told_back (messages_part c y x w.mid p.mid w.other.mid p.other.mid u w.first p.first w.other.first p.other.first w.other.second p.other.second b a is goes w.other.one p.other.one p.other.other none b_is a_is)
+
+taken_ran : (answers : ℕ → Answer) (site : Site) (c : ℕ) (taken : Taken) (s t u v : State) (a b : List Sighting) → Alike s t
+    → AnswersTaken site c taken s a u → AnswersTaken site c taken t b v → AreAnswered answers a → AreAnswered answers b → Ran (λ d. d ≡ c) a b u v
+taken_ran answers site c (asks q) s t u v a b alike p w on_a on_b = request_ran answers site c q s t u v a b alike p w on_a on_b
+taken_ran answers site c wants_continue s t u v a b alike p w on_a on_b =
+    agreed (passing_http answers (λ (bytes : List ℕ) now. Continues bytes) (λ bytes. Sends c (record { bytes = bytes; closes = false })) (λ x y now h k l p q. (p.0 ∙ sym q.0, p.1 ∙ sym q.1))
+    (λ bytes. sends_agree answers c (record { bytes = bytes; closes = false })) s t u v a b alike p w on_a on_b)
+taken_ran answers site c (is_faulty status) s t u v a b alike p w on_a on_b =
+    agreed (passing_http answers (λ (bytes : List ℕ) now. Refuses c status bytes) (λ bytes. Sends c (record { bytes = bytes; closes = true })) (λ x y now h k l p q. (p.0 ∙ sym q.0, p.1 ∙ sym q.1))
+    (λ bytes. sends_agree answers c (record { bytes = bytes; closes = true })) s t u v a b alike p w on_a on_b)
+taken_ran answers site c interrupts s t u v a b alike p w on_a on_b = agreed (does_agree answers (act.Closed c ∷ []) s t u v a b alike p w on_a on_b)
+
+next_ran : (answers : ℕ → Answer) (site : Site) (c : ℕ) (s t u v : State) (a b : List Sighting) → Alike s t
+    → TakesNextMessage site c s a u → TakesNextMessage site c t b v → AreAnswered answers a → AreAnswered answers b → Ran (λ d. d ≡ c) a b u v
+next_ran answers site c s t u v a b alike (x, p) (y, q) on_a on_b =
+    let first = on_http answers (λ (taken : Taken) now. Takes c taken) (λ x y now h k l p q. taken_once c x y h k l p q) x y s t p.mid q.mid p.first q.first alike p.one q.one in
+    ran_after (λ d. d ≡ c) p.first q.first p.second q.second a b p.mid q.mid u v first.1
+    (taken_ran answers site c x p.mid q.mid u v p.second q.second first.1.state p.other (subst (λ (z : Taken). AnswersTaken site c z q.mid q.second v) (sym first.0) q.other)
+    (fits_rest answers p.first p.second a p.whole on_a) (fits_rest answers q.first q.second b q.whole on_b)) p.whole q.whole
+
+dry_or_not : (site : Site) (c : ℕ) (s t u : State) (a : List Sighting) → Alike s t → IsDry c s.http → TakesNextMessage site c t a u → ⊥
+dry_or_not site c s t u a alike dry (taken, move) = dry_takes c taken t.http move.one.0 (subst (λ (h : Streams). IsDry c h) alike.http dry) move.one.1
+
+-- what follows of the same connection passes over it
+rest_passes : (site : Site) (c k : ℕ) (m u : State) (d : List Sighting) → TakesEveryMessage site c m d u → k ≡ c → Owes k m.http → Passed k d u
+rest_passes site c k m u d more is owes =
+    subst (λ (x : ℕ). Passed x d u) (sym is) (messages_pass site c m u d (subst (λ (x : ℕ). Owes x m.http) is owes) more)
+
+messages_ran : (answers : ℕ → Answer) (site : Site) (c : ℕ) (s t u v : State) (a b : List Sighting) → Alike s t
+    → TakesEveryMessage site c s a u → TakesEveryMessage site c t b v → AreAnswered answers a → AreAnswered answers b → Ran (λ d. d ≡ c) a b u v
+messages_ran answers site c s t u v a b alike (is_done s' a' u' done stays) (is_done t' b' v' also stay) on_a on_b = agreed (becomes_agree s t u v [] [] a b alike refl stays stay)
+messages_ran answers site c s t u v a b alike (is_done s' a' u' done stays) (goes_on t' mid v' b' first second move more whole) on_a on_b =
+    absurd (dry_or_not site c s t mid first alike done move)
+messages_ran answers site c s t u v a b alike (goes_on s' mid u' a' first second move more whole) (is_done t' b' v' done stays) on_a on_b =
+    absurd (dry_or_not site c t s mid first (alike_back s t alike) done move)
+messages_ran answers site c s t u v a b alike (goes_on s' m u' a' g d p more whole) (goes_on t' n v' b' e f q further all) on_a on_b =
+    ran_then (λ k. k ≡ c) g e d f a b m n u v
+    (next_ran answers site c s t m n g e alike p q (fits_first answers g d a whole on_a) (fits_first answers e f b all on_b))
+    (λ first. messages_ran answers site c m n u v d f first.state more further (fits_rest answers g d a whole on_a) (fits_rest answers e f b all on_b))
+    (λ k is owes. rest_passes site c k m u d more is owes) (λ k is owes. rest_passes site c k n v f further is owes) whole all
+
+abbrev Any : ℕ → Type 0
+Any c = Unit {0}
+
+piece_ran : (answers : ℕ → Answer) (site : Site) (c : ℕ) (bytes : List ℕ) (s t u v : State) (a b : List Sighting) → Alike s t
+    → HearsPiece site c bytes s a u → HearsPiece site c bytes t b v → AreAnswered answers a → AreAnswered answers b → Ran Any a b u v
+piece_ran answers site c bytes s t u v a b alike p q on_a on_b =
+    let first = on_http answers (λ (x : Unit {0}). Lengthened c bytes) (λ x y now h k l p q. (refl, p ∙ sym q)) tt tt s t p.mid q.mid p.first q.first alike p.one q.one in
+    of_these (λ d. d ≡ c) Any a b u v (λ d is. tt)
+    (ran_after (λ d. d ≡ c) p.first q.first p.second q.second a b p.mid q.mid u v first.1
+    (messages_ran answers site c p.mid q.mid u v p.second q.second first.1.state p.other q.other (fits_rest answers p.first p.second a p.whole on_a) (fits_rest answers q.first q.second b q.whole on_b))
+    p.whole q.whole)
 
 -- ---- events
 
-follows_agree : (answers : ℕ → Answer) (site : Site) (w : What) (bytes : List ℕ) → AgreeAs answers (Follows site w bytes) (Follows site w bytes)
-follows_agree answers site (what.Opened c) bytes s t u v a b alike p q on_a on_b = http_agree answers (Opened c) (λ now h k l x y. x ∙ sym y) s t u v a b alike p q on_a on_b
-follows_agree answers site (what.Bytes c size) bytes s t u v a b alike p q on_a on_b = piece_agrees answers site c bytes s t u v a b alike p q on_a on_b
-follows_agree answers site (what.Ended c) bytes s t u v a b alike p q on_a on_b = http_agree answers (λ now. Ended c) (λ now h k l x y. x ∙ sym y) s t u v a b alike p q on_a on_b
-follows_agree answers site (what.Datagram from size) bytes s t u v a b alike p q on_a on_b = datagram_agrees answers site from bytes s t u v a b alike p q on_a on_b
-follows_agree answers site what.Tick bytes s t u v a b alike p q on_a on_b = each_agree answers PollsAndDelivers (events_of site) (poll_agrees answers) s t u v a b alike p q on_a on_b
-follows_agree answers site what.Stop bytes s t u v a b alike p q on_a on_b = becomes_agree s t u v [] [] a b alike refl p q
+-- what is known of two runs after an event, which may bring a block that both refuse
+data Followed (e : EventWithBytes) (a b : List Sighting) (u v : State) : Type 0 where
+  followed : Ran Any a b u v → Followed e a b u v
+  block_refused : BringsBlock e → BothBegin a b → Followed e a b u v
 
-step_agrees : (answers : ℕ → Answer) (site : Site) (e : EventWithBytes) → AgreeAs answers (Step site e) (Step site e)
-step_agrees answers site e s t u v a b alike p q on_a on_b =
-    then_agree answers (Follows site e.event.what e.bytes) (Follows site e.event.what e.bytes) EndsEvent EndsEvent (follows_agree answers site e.event.what e.bytes) (ends_agree answers)
-    (record s { moment = max s.moment e.event.moment }) (record t { moment = max t.moment e.event.moment }) u v a b later p q on_a on_b
+datagram_ran : (e : EventWithBytes) (from : Endpoint) (size : ℕ) (a b : List Sighting) (u v : State) → e.event.what ≡ what.Datagram from size → HeardBoth e.bytes a b u v → Followed e a b u v
+datagram_ran e from size a b u v is (both_agree x) = followed (agreed x)
+datagram_ran e from size a b u v is (both_refuse block both) =
+    block_refused (record { from = from; count = size; datagram = is; message = block.message; spells = block.spells; block = block.block; joins = block.joins }) both
+
+follows_ran : (answers : ℕ → Answer) (site : Site) (e : EventWithBytes) (w : What) (s t u v : State) (a b : List Sighting) → e.event.what ≡ w → Alike s t
+    → Follows site w e.bytes s a u → Follows site w e.bytes t b v → AreAnswered answers a → AreAnswered answers b → Followed e a b u v
+follows_ran answers site e (what.Opened c) s t u v a b is alike p q on_a on_b = followed (agreed (http_agree answers (Opened c) (λ now h k l x y. x ∙ sym y) s t u v a b alike p q on_a on_b))
+follows_ran answers site e (what.Bytes c size) s t u v a b is alike p q on_a on_b = followed (piece_ran answers site c e.bytes s t u v a b alike p q on_a on_b)
+follows_ran answers site e (what.Ended c) s t u v a b is alike p q on_a on_b = followed (agreed (http_agree answers (λ now. Ended c) (λ now h k l x y. x ∙ sym y) s t u v a b alike p q on_a on_b))
+follows_ran answers site e (what.Datagram from size) s t u v a b is alike p q on_a on_b =
+    datagram_ran e from size a b u v is (datagram_agrees answers site from e.bytes s t u v a b alike p q on_a on_b)
+follows_ran answers site e what.Tick s t u v a b is alike p q on_a on_b =
+    followed (agreed (each_agree answers PollsAndDelivers (events_of site) (poll_agrees answers) s t u v a b alike p q on_a on_b))
+follows_ran answers site e what.Stop s t u v a b is alike p q on_a on_b = followed (agreed (becomes_agree s t u v [] [] a b alike refl p q))
+
+step_ran : (answers : ℕ → Answer) (site : Site) (e : EventWithBytes) (s t u v : State) (a b : List Sighting) → Alike s t
+    → Step site e s a u → Step site e t b v → AreAnswered answers a → AreAnswered answers b → Followed e a b u v
+step_ran answers site e s t u v a b alike p q on_a on_b =
+    by (follows_ran answers site e e.event.what (record s { moment = max s.moment e.event.moment }) (record t { moment = max t.moment e.event.moment }) p.mid q.mid p.first q.first refl later p.one q.one
+    (fits_first answers p.first p.second a p.whole on_a) (fits_first answers q.first q.second b q.whole on_b))
   where
     later : Alike (record s { moment = max s.moment e.event.moment }) (record t { moment = max t.moment e.event.moment })
     later = record { moment = ap (λ (m : ℕ). max m e.event.moment) alike.moment; http = alike.http; coap = alike.coap; thing = alike.thing; directory = alike.directory }
 
-event_agrees : (answers : ℕ → Answer) (site : Site) (e : EventWithBytes) → AgreeAs answers (EventAndStep site e) (EventAndStep site e)
-event_agrees answers site e =
-    then_agree answers (Comes e) (Comes e) (Step site e) (Step site e)
-    (λ s t u v a b alike p q on_a on_b. becomes_agree s t u v (at_network (heard e) ∷ []) (at_network (heard e) ∷ []) a b alike refl p q) (step_agrees answers site e)
+    by : Followed e p.first q.first p.mid q.mid → Followed e a b u v
+    by (followed r) =
+        followed (ran_then Any p.first q.first p.second q.second a b p.mid q.mid u v r
+        (λ one. agreed (ends_agree answers p.mid q.mid u v p.second q.second one.state p.other q.other (fits_rest answers p.first p.second a p.whole on_a) (fits_rest answers q.first q.second b q.whole on_b)))
+        (λ k of owes. ends_pass k p.mid u p.second owes p.other) (λ k of owes. ends_pass k q.mid v q.second owes q.other) p.whole q.whole)
+    by (block_refused brings both) =
+        block_refused brings (record {
+          sign = both.sign;
+          later = both.later ++ p.second;
+          other = both.other ++ q.second;
+          first = p.whole ∙ ap (λ (x : List Sighting). x ++ p.second) both.first;
+          second = q.whole ∙ ap (λ (x : List Sighting). x ++ q.second) both.second;
+          is_sign = both.is_sign;
+        })
+
+event_ran : (answers : ℕ → Answer) (site : Site) (e : EventWithBytes) (s t u v : State) (a b : List Sighting) → Alike s t
+    → EventAndStep site e s a u → EventAndStep site e t b v → AreAnswered answers a → AreAnswered answers b → Ran Any a b u v
+event_ran answers site e s t u v a b alike p q on_a on_b =
+    by (step_ran answers site e p.mid q.mid u v p.second q.second first.state p.other q.other (fits_rest answers p.first p.second a p.whole on_a) (fits_rest answers q.first q.second b q.whole on_b))
+  where
+    first : Agree p.first q.first p.mid q.mid
+    first = becomes_alike s t p.mid q.mid (at_network (heard e) ∷ []) (at_network (heard e) ∷ []) p.first q.first alike refl p.one q.one
+
+    by : Followed e p.second q.second u v → Ran Any a b u v
+    by (followed r) = ran_after Any p.first q.first p.second q.second a b p.mid q.mid u v first r p.whole q.whole
+    by (block_refused brings both) = refused (record {
+      before = [];
+      event = e;
+      sign = both.sign;
+      later = both.later;
+      other = both.other;
+      first = p.whole ∙ ap₂ (λ (x y : List Sighting). x ++ y) p.one.saw both.first;
+      second = q.whole ∙ ap₂ (λ (x y : List Sighting). x ++ y) q.one.saw both.second;
+      brings = brings;
+      is_sign = both.is_sign;
+    })
+
+run_ran : (answers : ℕ → Answer) (site : Site) (took : List EventWithBytes) (s t u v : State) (a b : List Sighting) → Alike s t
+    → Run site took s a u → Run site took t b v → AreAnswered answers a → AreAnswered answers b → Ran Any a b u v
+run_ran answers site [] s t u v a b alike p q on_a on_b = agreed (becomes_agree s t u v [] [] a b alike refl p q)
+run_ran answers site (e ∷ took) s t u v a b alike p q on_a on_b =
+    ran_then Any p.first q.first p.second q.second a b p.mid q.mid u v
+    (event_ran answers site e s t p.mid q.mid p.first q.first alike p.one q.one (fits_first answers p.first p.second a p.whole on_a) (fits_first answers q.first q.second b q.whole on_b))
+    (λ first. run_ran answers site took p.mid q.mid u v p.second q.second first.state p.other q.other
+    (fits_rest answers p.first p.second a p.whole on_a) (fits_rest answers q.first q.second b q.whole on_b))
+    (λ k of owes. events_pass site k took p.mid u p.second owes p.other) (λ k of owes. events_pass site k took q.mid v q.second owes q.other) p.whole q.whole
 
 pub runs_are_determined : RunsAreDetermined
 runs_are_determined site exchanges epoch took answers seen shown s t one other on_seen on_shown =
-    (each_agree answers (EventAndStep site) took (event_agrees answers site) (start site exchanges epoch) (start site exchanges epoch) s t seen shown (alike_self (start site exchanges epoch)) one other on_seen on_shown).seen
+    ran_determined Any seen shown s t
+    (run_ran answers site took (start site exchanges epoch) (start site exchanges epoch) s t seen shown (alike_self (start site exchanges epoch)) one other on_seen on_shown)

@@ -7,7 +7,7 @@ use Rattle.coap_exchange.specs.Admission.{Arrival, lives, is_duplicate_of}
 use Rattle.coap_exchange.specs.Table.{Exchange, Table, at_moment, duplicated_exchange, with_exchange, with_reply, answered, Meets}
 use Rattle.coap_exchange.specs.declared.met.Met.{Met}
 use Rattle.coap_exchange.specs.declared.met.Met.TheVariants.{Fresh, Repeat, Full}
-use Rattle.servient_laws.proofs.AlikeStates.{unplaced, SameTable}
+use Rattle.servient_laws.specs.Determined.{unplaced, SameTable}
 
 -- ---- tests of a request alone
 

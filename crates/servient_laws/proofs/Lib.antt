@@ -17,8 +17,13 @@ mod AlikeStreams
 mod AlikeDirectories
 mod AlikeRegistries
 mod AlikeDirectoryActs
+mod UnchangedEntries
+mod MemoryReplies
+mod OwedReplies
 mod AlikeMoves
 mod AlikeRequests
+mod RunParts
+mod RefusedRequests
 mod AlikeRuns
 mod UntouchedLaws
 mod PayloadLaws

@@ -255,7 +255,7 @@ no_description text b e = cc
 no_wait : (n : ℕ) → outcome.Wait n ≡ outcome.Memory → ⊥
 no_wait n e = cc
 
-performs_missed : (act : ThingAct) (q : RequestSeen) (inputs : List Input) (done : Done) (s : State) (seen : List HandlerCall) (t : State) → done.outcome ≡ outcome.Memory
+pub performs_missed : (act : ThingAct) (q : RequestSeen) (inputs : List Input) (done : Done) (s : State) (seen : List HandlerCall) (t : State) → done.outcome ≡ outcome.Memory
     → Performs act q inputs done s seen t → EndsInMiss seen
 performs_missed (describes thing) q inputs done s seen t memory r = absurd (no_description _ _ (outcome_of done _ r.0 memory))
 performs_missed (reads_all thing) q inputs done s seen t memory r = each_missed (readable thing) [] done s seen t memory r
@@ -273,7 +273,7 @@ performs_missed (reads_event p) q inputs done s seen t memory r = absurd (no_eve
 performs_missed (waits p) q inputs done s seen t memory r = absurd (no_wait p.slot (outcome_of done _ r.0 memory))
 
 -- no refusal is that
-never_refused : (a : Asked) (o : Outcome) → IsRefusedBy refusals a o → o ≡ outcome.Memory → ⊥
+pub never_refused : (a : Asked) (o : Outcome) → IsRefusedBy refusals a o → o ≡ outcome.Memory → ⊥
 never_refused a o (inl missing) e = absurd (let is : o ≡ outcome.NotFound = missing.1 in differ (sym is ∙ e))
   where
     differ : outcome.NotFound ≡ outcome.Memory → ⊥

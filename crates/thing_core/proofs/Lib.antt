@@ -14,6 +14,7 @@ pub mod LastLaws
 pub mod PerformLaws
 pub mod Handed
 pub mod CompleteLaws
+pub mod ApartLaws
 pub mod DeterminedLaws
 mod TickLaws
 mod RoundLaws

@@ -59,7 +59,7 @@ never_late false is = cc
 
 never_further : (c : Chosen) (w : CoapWaiting) (b : Blocks) (happened : List Happening) (r : Consumed) (v : CoapWaiting) → Some consumed.Failed ≡ Some r → AsksFurther c w b happened (Some r) v → ⊥
 never_further c w b happened r v is (is_further sent none) = cc
-never_further c w b happened r v is (is_no_further f refused nothing long) = cc
+never_further c w b happened r v is (is_no_further refused nothing long) = cc
 
 never_answers : (p : Purpose) (c : Chosen) (w : CoapWaiting) (code : ℕ) (block2 : Option Block) (payload : List ℕ) (deeds : List Deed) (r : Consumed) (v : CoapWaiting) → Some consumed.Failed ≡ Some r
     → FollowsAnswer p c w code block2 payload deeds (Some r) v → ⊥

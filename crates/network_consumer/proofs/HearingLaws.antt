@@ -137,7 +137,7 @@ value_follows o c w v payload said by_it r a m k q says closes after = record {
 
 put_further : (c : Chosen) (w v : CoapWaiting) (b : Blocks) (hs : List Happening) (r : Option Consumed) → AsksFurther c w b hs r v → put.Done ≡ put_in r
 put_further c w v b hs r (is_further sent goes_on) = ap put_in (sym goes_on)
-put_further c w v b hs r (is_no_further f refused none ends) = ap put_in (sym ends)
+put_further c w v b hs r (is_no_further refused none ends) = ap put_in (sym ends)
 
 -- the step and what came back, as one
 as_one : {A B : Type 0} (x : A × B) (a : A) (b : B) → a ≡ x.0 → b ≡ x.1 → x ≡ (a, b)
@@ -261,9 +261,13 @@ request_refused c w b a f n at_ask refused = record {
 pub asked_further : (c : Chosen) (w v : CoapWaiting) (b : Blocks) (n m : NetSeen) → ShowsHappenings (λ hs. IsSent c w b hs v) n m → ShowsHappenings (λ hs. AsksFurther c w b hs None v) n m
 asked_further c w v b n m sends = record { happened = sends.happened; holds = is_further sends.holds refl; shows = sends.shows }
 
-pub asked_no_further : (c : Chosen) (w v : CoapWaiting) (b : Blocks) (f : ClientFault) (n m : NetSeen) → ShowsHappenings (λ hs. IsRefused (client_now w) w.peer (asking_with c w b) f × (hs ≡ [])) n m
+pub asked_no_further : (c : Chosen) (w v : CoapWaiting) (b : Blocks) (f : ClientFault) (n m : NetSeen) → f ≡ client_fault.NoRoom → ShowsHappenings (λ hs. IsRefused (client_now w) w.peer (asking_with c w b) f × (hs ≡ [])) n m
     → ShowsHappenings (λ hs. AsksFurther c w b hs (Some (ended.Other outcome.Long)) v) n m
-asked_no_further c w v b f n m refuses = record { happened = refuses.happened; holds = is_no_further f refuses.holds.0 refuses.holds.1 refl; shows = refuses.shows }
+asked_no_further c w v b f n m is refuses = record {
+  happened = refuses.happened;
+  holds = is_no_further (subst (λ (x : ClientFault). IsRefused (client_now w) w.peer (asking_with c w b) x) is refuses.holds.0) refuses.holds.1 refl;
+  shows = refuses.shows;
+}
 
 -- ## What falls due
 

@@ -1,4 +1,6 @@
 pub mod DeedLaws
+mod OrderLaws
+mod OrderSteps
 pub mod HearingLaws
 pub mod AwaitingLaws
 pub mod AskingLaws

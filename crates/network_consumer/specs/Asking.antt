@@ -32,6 +32,11 @@ pub record AreBlocks (b : Blocks) : Type 0 where
 abbrev pub input_block : ℕ → ℕ → Block
 input_block size number = record { number = number; more = nat_lt (1024 * (number + 1)) size; szx = 6 }
 
+-- The most blocks of it that are sent. There are twice as many message IDs (RFC 7252, section 4.4), so that one is left for
+-- each request, those for the blocks of the answer with them.
+abbrev pub most_input_blocks : ℕ
+most_input_blocks = 32768
+
 -- It goes whole where it is no longer than a payload may be (RFC 7252, section 4.6), and else its first block goes first.
 abbrev pub first_block : ℕ → Option Block
 first_block size = if nat_lt LONGEST_PAYLOAD size then Some (input_block size 0) else None

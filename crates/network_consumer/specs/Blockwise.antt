@@ -1,6 +1,6 @@
 -- The value that is handed in and the one that comes back travel in blocks over CoAP (RFC 7959, sections 2.3 to 2.5 and
 -- 2.9.1): the steps after each answer, until one is whole.
-use Rattle.std.specs.Prelude.{◌+◌, ◌/◌, ◌^◌, ◌==◌, ◌&&◌, ◌||◌, not, ℕ, nat_lt, Bool, true, false, List, [], Option, Some, None, if◌then◌else◌}
+use Rattle.std.specs.Prelude.{◌+◌, ◌/◌, ◌==◌, ◌&&◌, ◌||◌, not, ℕ, nat_lt, Bool, true, false, List, [], Option, Some, None, if◌then◌else◌}
 use Rattle.coap_msg.specs.declared.constants.TheConstants.{GET}
 use Rattle.coap_msg.specs.declared.block.Block.{Block}
 use Rattle.wot_consumer.specs.declared.chosen.Chosen.{Chosen}
@@ -10,7 +10,7 @@ use Rattle.coap_client.specs.Transfers.{after_response}
 use Rattle.network_consumer.specs.declared.blocks.Blocks.{Blocks}
 use Rattle.network_consumer.specs.declared.block_transfer.NextStep.{NextStep}
 use Rattle.network_consumer.specs.declared.block_transfer.NextStep.TheVariants as step
-use Rattle.network_consumer.specs.Asking.{blocks, first_blocks, input_block, input_size, method_code}
+use Rattle.network_consumer.specs.Asking.{blocks, first_blocks, input_block, most_input_blocks, input_size, method_code}
 
 -- the state of both: the value handed in, the blocks of the last request, and the answer as far as it came back, joined
 pub record Transferred : Type 0 where
@@ -28,12 +28,12 @@ nothing_joined input = record { input = input; asked = first_blocks input; joine
 abbrev pub continue_code : ℕ
 continue_code = 95
 
--- After a block that a server took comes the next one, where its number has 20 bits. After the last there is nothing to go on
--- with.
+-- After a block that a server took comes the next one, unless there were as many as may be. After the last there is nothing to
+-- go on with.
 abbrev pub after_block : ℕ → Block → NextStep
 after_block size b =
     if not b.more then step.Malformed
-    else if nat_lt (b.number + 1) (2 ^ 20) then step.Ask (blocks (Some (input_block size (b.number + 1))) None)
+    else if nat_lt (b.number + 1) most_input_blocks then step.Ask (blocks (Some (input_block size (b.number + 1))) None)
     else step.Long
 
 -- the step after a 2.31 to a request with these blocks: it goes on where a block was sent and none asked for, and is

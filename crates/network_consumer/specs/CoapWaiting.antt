@@ -6,6 +6,7 @@ use Rattle.coap_msg.specs.declared.block.Block.{Block}
 use Rattle.coap_msg.specs.declared.endpoint.Endpoint.{Endpoint}
 use Rattle.coap_client.specs.declared.state.State.{State}
 use Rattle.coap_client.specs.declared.fault.ClientFault.{ClientFault}
+use Rattle.coap_client.specs.declared.fault.ClientFault.TheVariants as fault
 use Rattle.coap_client.specs.Asking.{Asking}
 use Rattle.coap_client.specs.declared.news.News.{News}
 use Rattle.coap_client.specs.declared.news.News.TheVariants as news
@@ -70,11 +71,11 @@ pub data DeliversNews (w : CoapWaiting) (from : Endpoint) (bytes : List ℕ) (ha
   delivers : (told : Delivered) (old new : List ℕ) (s : State) → Delivers (client_now w) from bytes told old new s → n ≡ told.news
       → happened ≡ replied from told.reply new → v ≡ record w { client = s } → DeliversNews w from bytes happened n v
 
--- A further request with these blocks is sent, or the client refuses it, because it has no room or all message IDs are in use, and
--- the operation ends.
+-- A further request with these blocks is sent; or it fits no message, which alone keeps the client from sending it, and the
+-- operation ends.
 pub data AsksFurther (c : Chosen) (w : CoapWaiting) (b : Blocks) (happened : List Happening) (r : Option Consumed) (v : CoapWaiting) : Type 0 where
   is_further : IsSent c w b happened v → r ≡ None → AsksFurther c w b happened r v
-  is_no_further : (f : ClientFault) → IsRefused (client_now w) w.peer (asking_with c w b) f → happened ≡ [] → r ≡ Some (Other outcome.Long) → AsksFurther c w b happened r v
+  is_no_further : IsRefused (client_now w) w.peer (asking_with c w b) fault.NoRoom → happened ≡ [] → r ≡ Some (Other outcome.Long) → AsksFurther c w b happened r v
 
 -- so much of the answer came back
 abbrev pub with_joined : CoapWaiting → List ℕ → CoapWaiting

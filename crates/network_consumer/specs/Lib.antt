@@ -4,6 +4,7 @@ pub mod Asking
 pub mod Blockwise
 pub mod HttpWaiting
 pub mod CoapWaiting
+pub mod Order
 pub mod Waiting
 pub mod Consuming
 pub mod Failing

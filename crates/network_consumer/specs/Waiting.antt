@@ -15,15 +15,17 @@ use Rattle.network_consumer.specs.Deeds.{Deed, happens}
 use Rattle.network_consumer.specs.Asking.{IsAskable}
 use Rattle.network_consumer.specs.HttpWaiting.{HearsByHttp, after_event}
 use Rattle.network_consumer.specs.CoapWaiting.{HearsByCoap}
+use Rattle.network_consumer.specs.Order.{IsInOrder}
 
 -- an event that came, with its bytes
 abbrev pub event_of : Came → EventWithBytes
 event_of came = record { event = came.event; bytes = came.bytes.now }
 
--- the invariant of the wait before each event: the client's moment isn't later, and the chosen request can be sent
+-- the invariant of the wait before each event: the client's moment isn't later, the chosen request can be sent, and the client's
+-- requests are in order
 abbrev pub IsReady : Chosen → Waiting → Type 0
 IsReady c (Http w) = ⊤
-IsReady c (Coap w) = (w.client.moment ≤ w.moment) × IsAskable c
+IsReady c (Coap w) = (w.client.moment ≤ w.moment) × IsAskable c × IsInOrder c w
 
 -- the deeds on an event, and the end of the operation by it, or that it goes on, and the wait then
 pub data Hears (p : Purpose) (c : Chosen) (w : Waiting) (e : EventWithBytes) (deeds : List Deed) (r : Option Consumed) (v : Waiting) : Type 0 where

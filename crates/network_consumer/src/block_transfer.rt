@@ -16,8 +16,8 @@ use std::marker::Model;
 use wot_consumer::Chosen;
 use wot_json::Bytes;
 
-/// The first number that no block has: a number has 20 bits.
-const NUMBERS: u32 = 1 << 20;
+/// The most blocks of what is handed in that are sent: half of the message IDs, so that there is one for each request.
+const MOST_INPUT_BLOCKS: u32 = 32_768;
 
 /// An answer that isn't a value of what is observed.
 #[derive(Clone, Copy)]
@@ -225,7 +225,7 @@ fn after_block(size: usize, block: Block) -> NextStep
         return NextStep::Malformed;
     }
     let number = block.number + 1;
-    if number >= NUMBERS {
+    if number >= MOST_INPUT_BLOCKS {
         return NextStep::Long;
     }
     NextStep::Ask(Blocks {

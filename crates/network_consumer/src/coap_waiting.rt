@@ -1,13 +1,16 @@
 //! A request was sent over CoAP, and its response, or the values of an observed property, are awaited.
 
-ghost use Rattle.std.specs.Prelude.{◌≡◌, ◌≤◌, length, IfSome};
+ghost use Rattle.std.specs.Prelude.{◌≡◌, ◌≤◌, length, IfSome, None, IfOk, IfErr};
 ghost use Rattle.coap_msg.specs.Blocks.{IsBlock};
 ghost use Rattle.servient_outside.specs.Network.{NetShows};
 ghost use Rattle.network_consumer.specs.Deeds.{put_in, sight, Shows, ShowsHappenings};
 ghost use Rattle.network_consumer.specs.Answers.{CanBeJudged};
 ghost use Rattle.network_consumer.specs.Waiting.{event_of};
+ghost use Rattle.coap_client.specs.declared.fault.ClientFault.TheVariants.{NoRoom};
 ghost use Rattle.coap_client.specs.Exchange.{SaysBlock};
+ghost use Rattle.wot_consumer.specs.declared.chosen.Chosen.{Chosen as ChosenForm};
 ghost use Rattle.network_consumer.specs.Asking.{AreBlocks, IsAskable};
+ghost use Rattle.network_consumer.specs.Order.{IsFreeAfter, IsInOrder, MayBeSent};
 ghost use Rattle.network_consumer.specs.Blockwise.{is_joined as is_joined_of};
 ghost use Rattle.network_consumer.specs.CoapWaiting.{awaits_more as awaits_further, replied, AfterValue, AsksFurther, Cancels, DeliversNews, FallsDue, Follows, FollowsAnswer, FollowsValue, HearsByCoap, Meets, Sends};
 
@@ -49,9 +52,11 @@ impl CoapWaiting {
         requires asked { CanBeJudged task.now.purpose }
         requires askable { IsAskable task.now.chosen.now }
         requires in_time { self.old.client.moment ≤ self.old.moment }
+        requires in_order { IsInOrder task.now.chosen.now self.old }
         ensures hears { Shows (λ deeds. HearsByCoap task.now.purpose task.now.chosen.now self.old (event_of came.now) deeds result self.new)
             (sight (N.seen net.old) (O.seen out.old)) (sight (N.seen net.new) (O.seen out.new)) (put_in result) }
         ensures in_time { self.new.client.moment ≤ self.new.moment }
+        ensures in_order { result ≡ None → IsInOrder task.now.chosen.now self.new }
     {
         self.moment = self.moment.max(came.event.moment);
         match self.meet(task, came, net, out) {
@@ -71,9 +76,11 @@ impl CoapWaiting {
         requires asked { CanBeJudged task.now.purpose }
         requires askable { IsAskable task.now.chosen.now }
         requires in_time { self.old.client.moment ≤ self.old.moment }
+        requires in_order { IsInOrder task.now.chosen.now self.old }
         ensures meets { Shows (λ deeds. Meets task.now.purpose task.now.chosen.now self.old (event_of came.now) deeds result self.new)
             (sight (N.seen net.old) (O.seen out.old)) (sight (N.seen net.new) (O.seen out.new)) (put_in result) }
         ensures in_time { self.new.client.moment ≤ self.new.moment }
+        ensures in_order { result ≡ None → IsInOrder task.now.chosen.now self.new }
     {
         match came.event.what {
             What::Datagram(from, _) => {
@@ -87,11 +94,13 @@ impl CoapWaiting {
 
     /// Delivers a datagram to the client, sends its reply, and gives the news.
     fn deliver<'b, N: Net>(&mut self, from: Endpoint, bytes: &'b [u8], net: &mut N) -> News<'b>
-        requires { self.old.client.moment ≤ self.old.moment }
+        requires in_time { self.old.client.moment ≤ self.old.moment }
         ensures delivers { ShowsHappenings (λ happened. DeliversNews self.old from bytes.now happened result self.new)
             (N.seen net.old) (N.seen net.new) }
         ensures block { SaysBlock result }
         ensures in_time { self.new.client.moment ≤ self.new.moment }
+        ensures in_order { (c : ChosenForm) → IsInOrder c self.old → IsInOrder c self.new }
+        ensures free { (c : ChosenForm) → IsInOrder c self.old → IsFreeAfter result self.new.client }
     {
         // A room on the stack, so that a message takes no memory.
         let mut room = [0; LONGEST_MESSAGE];
@@ -112,9 +121,12 @@ impl CoapWaiting {
         requires askable { IsAskable task.now.chosen.now }
         requires in_time { self.old.client.moment ≤ self.old.moment }
         requires block { SaysBlock news }
+        requires in_order { IsInOrder task.now.chosen.now self.old }
+        requires free { IsFreeAfter news self.old.client }
         ensures follows { Shows (λ deeds. Follows task.now.purpose task.now.chosen.now self.old news.entry deeds result self.new)
             (sight (N.seen net.old) (O.seen out.old)) (sight (N.seen net.new) (O.seen out.new)) (put_in result) }
         ensures in_time { self.new.client.moment ≤ self.new.moment }
+        ensures in_order { result ≡ None → IsInOrder task.now.chosen.now self.new }
     {
         match news {
             News::Nothing => None,
@@ -144,9 +156,12 @@ impl CoapWaiting {
         requires askable { IsAskable task.now.chosen.now }
         requires in_time { self.old.client.moment ≤ self.old.moment }
         requires block { IfSome answer.now.block2 IsBlock }
+        requires in_order { IsInOrder task.now.chosen.now self.old }
+        requires free { self.old.client.outstanding ≡ None }
         ensures follows { Shows (λ deeds. FollowsAnswer task.now.purpose task.now.chosen.now self.old answer.now.code answer.now.block2 answer.now.payload.now deeds result self.new)
             (sight (N.seen net.old) (O.seen out.old)) (sight (N.seen net.new) (O.seen out.new)) (put_in result) }
         ensures in_time { self.new.client.moment ≤ self.new.moment }
+        ensures in_order { result ≡ None → IsInOrder task.now.chosen.now self.new }
     {
         let joins = is_joined(task.chosen);
         match self.transfer.take(joins, answer) {
@@ -170,9 +185,11 @@ impl CoapWaiting {
         requires askable { IsAskable chosen.now }
         requires blocks { AreBlocks blocks }
         requires in_time { self.old.client.moment ≤ self.old.moment }
+        requires may_be_sent { MayBeSent chosen.now self.old blocks }
         ensures asks { ShowsHappenings (λ happened. AsksFurther chosen.now self.old blocks happened result self.new)
             (N.seen net.old) (N.seen net.new) }
         ensures in_time { self.new.client.moment ≤ self.new.moment }
+        ensures in_order { result ≡ None → IsInOrder chosen.now self.new }
     {
         match self.send(chosen, blocks, net) {
             Ok(()) => None,
@@ -191,9 +208,11 @@ impl CoapWaiting {
         requires asked { CanBeJudged task.now.purpose }
         requires askable { IsAskable task.now.chosen.now }
         requires in_time { self.old.client.moment ≤ self.old.moment }
+        requires in_order { IsInOrder task.now.chosen.now self.old }
         ensures follows { Shows (λ deeds. FollowsValue task.now.purpose task.now.chosen.now self.old payload.now deeds result self.new)
             (sight (N.seen net.old) (O.seen out.old)) (sight (N.seen net.new) (O.seen out.new)) (put_in result) }
         ensures in_time { self.new.client.moment ≤ self.new.moment }
+        ensures in_order { result ≡ None → IsInOrder task.now.chosen.now self.new }
     {
         let consumed = close(answer_message(task, CONTENT, payload), out);
         self.after_value(task.chosen, consumed, net)
@@ -208,9 +227,11 @@ impl CoapWaiting {
     ) -> Option<Consumed>
         requires askable { IsAskable chosen.now }
         requires in_time { self.old.client.moment ≤ self.old.moment }
+        requires in_order { IsInOrder chosen.now self.old }
         ensures ends { ShowsHappenings (λ happened. AfterValue chosen.now self.old consumed happened result self.new)
             (N.seen net.old) (N.seen net.new) }
         ensures in_time { self.new.client.moment ≤ self.new.moment }
+        ensures in_order { result ≡ None → IsInOrder chosen.now self.new }
     {
         if awaits_more(self.left, consumed) {
             self.left -= 1;
@@ -254,9 +275,12 @@ impl CoapWaiting {
         requires askable { IsAskable chosen.now }
         requires blocks { AreBlocks blocks }
         requires in_time { self.old.client.moment ≤ self.old.moment }
+        requires may_be_sent { MayBeSent chosen.now self.old blocks }
         ensures sends { ShowsHappenings (λ happened. Sends chosen.now self.old blocks happened result self.new)
             (N.seen net.old) (N.seen net.new) }
         ensures in_time { self.new.client.moment ≤ self.new.moment }
+        ensures in_order { IfOk result (λ _. IsInOrder chosen.now self.new) }
+        ensures fault { IfErr result (λ f. f ≡ NoRoom) }
     {
         let ask = self.transfer.ask(chosen, blocks);
         let mut room = [0; LONGEST_MESSAGE];
@@ -276,6 +300,7 @@ impl CoapWaiting {
         ensures due { ShowsHappenings (λ happened. FallsDue self.old happened result self.new)
             (N.seen net.old) (N.seen net.new) }
         ensures in_time { self.new.client.moment ≤ self.new.moment }
+        ensures in_order { (c : ChosenForm) → IsInOrder c self.old → IsInOrder c self.new }
     {
         let mut room = [0; LONGEST_MESSAGE];
         match self.client.due(self.moment, &mut room) {

@@ -1,5 +1,6 @@
 //! A request was sent, and its answer is awaited.
 
+ghost use Rattle.std.specs.Prelude.{◌≡◌, None};
 ghost use Rattle.network_consumer.specs.Deeds.{put_in, sight, Shows};
 ghost use Rattle.network_consumer.specs.Answers.{CanBeJudged};
 ghost use Rattle.network_consumer.specs.Waiting.{event_of, Hears, IsReady};
@@ -36,7 +37,7 @@ impl Waiting {
         requires ready { IsReady task.now.chosen.now self.old }
         ensures hears { Shows (λ deeds. Hears task.now.purpose task.now.chosen.now self.old (event_of came.now) deeds result self.new)
             (sight (N.seen net.old) (O.seen out.old)) (sight (N.seen net.new) (O.seen out.new)) (put_in result) }
-        ensures ready { IsReady task.now.chosen.now self.new }
+        ensures ready { result ≡ None → IsReady task.now.chosen.now self.new }
     {
         match self {
             Waiting::Http(waiting) => waiting.hear(task, came, out),

@@ -18,7 +18,7 @@ returns-in-Some g c =
 pub loop-count-preserved : goal.loop-count-preserved
 loop-count-preserved g c =
     progress_more _ _ _ _ _ _ _ (g.N.Net.seen c.loop-count.net) (g.N.Net.seen c.next.new.self) (g.O.Out.seen c.loop-count.out) _ c.loop-count.count (in_buffer c.in-Got.event c.next.new.buffer) _ c.loop-count.invariant c.in-Got.ensures.shows
-    (same_event _ _ _ _ c.byte_count-size.ensures refl) c.in-None.ensures.hears c.in-None.ensures.ready c.loop-count-test.true
+    (same_event _ _ _ _ c.byte_count-size.ensures refl) c.in-None.ensures.hears (c.in-None.ensures.ready refl) c.loop-count-test.true
 
 pub returns : goal.returns
 returns g c = ends_spent _ _ _ _ _ _ _ c.loop-count.count c.loop-count.invariant (omega (arith, c.loop-count-test.false, c.loop-count.auto.count-end))

@@ -233,8 +233,7 @@ pub asked_orderly : (observes : Bool) (s : State) (peer : Endpoint) (a : Asking)
 asked_orderly observes s peer a n old new t o below is asks =
     let id : asks.id ≡ s.next_id = next_is_next s.uses s.next_id s.moment asks.id (omega (arith, below)) (o.unused s.next_id (omega arith)) asks.next in
     let both = observed_so observes s peer a asks.id o is in
-    let next : (asks.id + 1) % 65536 ≡ s.next_id + 1 = ap (λ (i : ℕ). (i + 1) % 65536) id ∙ small (s.next_id + 1) below in
-    (
+    let next : (asks.id + 1) % 65536 ≡ s.next_id + 1 = ap (λ (i : ℕ). (i + 1) % 65536) id ∙ small (s.next_id + 1) below in (
       subst (λ (x : State). IsOrderly observes x) (sym asks.after) (record {
         one_token = both.0;
         unobserved = both.1;

@@ -50,8 +50,9 @@ pub fn stops_are_counted()
     ensures { StopsAreCounted }
 {}
 
-/// Two runs from the start with the same Things, events and answers of handlers, in both of which there was memory
-/// enough, do the same, act by act and call by call, so that the machine leaves nothing open but memory.
+/// Two runs from the start with the same Things, events and answers of handlers do the same, act by act and call by call,
+/// up to the first sign that memory was wanting in either; and throughout where both have the same signs, of which none
+/// answers a block of a request at once. So the machine leaves nothing open but memory.
 pub fn runs_are_determined()
     ensures { RunsAreDetermined }
 {}
@@ -72,8 +73,8 @@ pub fn handlers_stay()
     ensures { HandlersStay }
 {}
 
-/// Over files and an output in memory none of whose calls fails, with room for the text that the command writes, there
-/// is no failure of those that the clause `complete` of the top call asks about.
+/// Over files, a network and an output in memory none of whose calls fails, with room for the text that the command writes,
+/// there is no failure of those that the clause `complete` of the top call asks about, whatever the command.
 pub fn nothing_fails_in_memory()
     ensures { NothingFailsInMemory }
 {}

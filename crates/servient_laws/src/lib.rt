@@ -16,12 +16,12 @@
 //! - An operation has one meaning by either binding: beside `one_meaning` of `servient_core`, it is replied to with one
 //!   payload and one tag, `payloads_are_of_outcomes`, and what both bindings can say is read from a message of either,
 //!   `requests_are_spoken`.
-//! - One run, one outcome: with the same events and answers the same is done, where there is memory enough:
+//! - One run, one outcome: with the same events and answers the same is done, until memory is wanting:
 //!   `runs_are_determined`.
 //! - Nothing before the word: no event is taken by a command that didn't serve, `faults_take_no_event`, and no handler
 //!   is called by one that calls none, `handlers_stay`.
 //! - A failure has a cause: a file or the network failed where the status says so, `failures_are_counted`.
-//! - Memory alone: over files and an output in memory nothing fails but memory, `nothing_fails_in_memory`.
+//! - Memory alone: over files, a network and an output in memory nothing fails but memory, `nothing_fails_in_memory`.
 //! - Over a whole run the directory gives out exactly what stands: `directory_gives_out_what_stands`.
 #![tactic(auto)]
 

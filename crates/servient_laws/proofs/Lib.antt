@@ -44,3 +44,5 @@ mod DirectoryTimed
 mod DirectoryUntimed
 mod DirectorySteps
 mod DirectoryLaws
+mod DialogueSteps
+mod DialogueMoves

@@ -11,3 +11,4 @@ pub mod Stops
 pub mod Failures
 pub mod Sections
 pub mod DirectoryRuns
+pub mod Dialogues

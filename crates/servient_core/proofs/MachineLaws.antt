@@ -201,7 +201,7 @@ closes_keeps s seen t is =
 
 -- ---- polls, and the end of each event
 
-polls_keeps : (p : Placed) (s : State) (seen : List Sighting) (t : State) → PollsAndDelivers p s seen t → Keeps [] s seen t
+pub polls_keeps : (p : Placed) (s : State) (seen : List Sighting) (t : State) → PollsAndDelivers p s seen t → Keeps [] s seen t
 polls_keeps p s seen t is =
     let both = is.1 in
     then_keeps [] [] s both.mid t both.first both.second seen

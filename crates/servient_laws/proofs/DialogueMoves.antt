@@ -191,7 +191,7 @@ delivers_keep site c target below =
     (keeps_until site c (AnswersWait target) (λ s. oldest_for target s.http.waits ≡ None) (wait_keeps site c target below))
     (coap_keeps site c (λ now before after. after ≡ with_emitted target before))
 
-deliveries_keep : (site : Site) (c : ℕ) (emissions : List Emission) → c < 64 → KeepsOn site c (DeliversEach emissions)
+pub deliveries_keep : (site : Site) (c : ℕ) (emissions : List Emission) → c < 64 → KeepsOn site c (DeliversEach emissions)
 deliveries_keep site c emissions below = keeps_each site c Delivers (map (λ e. e.target) emissions) (λ target. delivers_keep site c target below)
 
 late_keeps : (site : Site) (c : ℕ) → c < 64 → KeepsOn site c AnswersLateWait
@@ -250,7 +250,7 @@ closes_keep site c below seen a s t k (d, w) = by (c == d) refl
         untouched_keeps site c seen a s t k (subst (λ (x : State). IsUntouched c s.http x.http) (sym t_is) (other_untouched c d None s.http w.one.0 test w.one.1.1))
         (subst (λ (x : List Sighting). NoneIsOf c x) (sym a_is) (one_more (closed d) [] test no_more))
 
-ends_keep : (site : Site) (c : ℕ) → c < 64 → KeepsOn site c EndsEvent
+pub ends_keep : (site : Site) (c : ℕ) → c < 64 → KeepsOn site c EndsEvent
 ends_keep site c below =
     keeps_then site c SendsNotifications (Then AnswersLateWaits ClosesAllIdle)
     (keeps_then site c (Until SendsNotification NothingIsDue) (OnCoap (λ now. SendsNext now None)) (keeps_until site c SendsNotification NothingIsDue (notification_keeps site c))
@@ -261,7 +261,7 @@ ends_keep site c below =
 
 -- ---- requests that are performed, and those of CoAP
 
-performed_none : (site : Site) (q : RequestSeen) (done : Done) (c : ℕ) (s t : State) (a : List Sighting) → PerformsByHttp site q done s a t → NoneIsOf c a × (t.http ≡ s.http)
+pub performed_none : (site : Site) (q : RequestSeen) (done : Done) (c : ℕ) (s t : State) (a : List Sighting) → PerformsByHttp site q done s a t → NoneIsOf c a × (t.http ≡ s.http)
 performed_none site q done c s t a (inl (is, (d, acts, none, p))) = (subst (λ (x : List Sighting). NoneIsOf c x) (sym p.saw) no_more, ap (λ (x : State). x.http) p.next)
 performed_none site q done c s t a (inr (isnt, (k, calls, acts, p))) = (subst (λ (x : List Sighting). NoneIsOf c x) (sym p.saw) (calls_are_none c calls), ap (λ (x : State). x.http) p.next)
 
@@ -285,12 +285,12 @@ datagram_keeps site c from (is_asked ask r) below seen a s t k (done, w) =
         keeps_then site c (OnCoap (λ now. Answers r done.outcome (observed_target site s.thing ask) bytes)) (Does (act.Datagram from bytes ∷ []))
         (coap_keeps site c (λ now. Answers r done.outcome (observed_target site s.thing ask) bytes)) (does_keeps site c (act.Datagram from bytes ∷ []) (datagram_none c from bytes)) seen a s t k w
 
-hears_keep : (site : Site) (c : ℕ) (from : Endpoint) (bytes : List ℕ) → c < 64 → KeepsOn site c (HearsDatagram site from bytes)
+pub hears_keep : (site : Site) (c : ℕ) (from : Endpoint) (bytes : List ℕ) → c < 64 → KeepsOn site c (HearsDatagram site from bytes)
 hears_keep site c from bytes below seen a s t k (inl p) = aside_keeps site c seen a [] s t s k refl p.1 no_more
 hears_keep site c from bytes below seen a s t k (inr (under, (h, w))) =
     keeps_then site c (OnCoap (λ now. Hears from bytes now h)) (AnswersDatagram site from h) (coap_keeps site c (λ now. Hears from bytes now h)) (datagram_keeps site c from h below) seen a s t k w
 
-polls_keep : (site : Site) (c : ℕ) (p : Placed) → c < 64 → KeepsOn site c (PollsAndDelivers p)
+pub polls_keep : (site : Site) (c : ℕ) (p : Placed) → c < 64 → KeepsOn site c (PollsAndDelivers p)
 polls_keep site c p below seen a s t k (emissions, w) =
     keeps_then site c (OnThing (PollsEvent p emissions)) (DeliversEach emissions)
     (λ seen a s t k on. aside_keeps site c seen a (map at_handler on.1) s t (record s { thing = on.0 }) k refl on.3 (calls_are_none c on.1)) (deliveries_keep site c emissions below) seen a s t k w
@@ -332,7 +332,7 @@ taken_keeps site c d interrupts below test seen a s t k p = does_keeps site c (a
 -- ---- a message of this connection
 
 -- the front of what isn't read, of both
-front_of : (z : Connection) (x : Talk) (f : Front) → IsTalk z x → IsFront (rest_of z) f → IsFront (unread x) f
+pub front_of : (z : Connection) (x : Talk) (f : Front) → IsTalk z x → IsFront (rest_of z) f → IsFront (unread x) f
 front_of z x f is front =
     subst (λ (n : ℕ). IsFront (drop n x.stream) f) is.taken (subst (λ (bytes : List ℕ). IsFront (drop z.taken bytes) f) is.stream front)
 
@@ -345,15 +345,15 @@ not_pending z x is none = by x.pending refl
     by (Some p) same = absurd (let e : None ≡ Some p.owed = sym none ∙ is.owed ∙ ap (option_map (λ (q : Pending). q.owed)) same in cc)
 
 -- a request at the front
-record IsMessage (f : Front) (q : RequestSeen) : Type 0 where
-  head : PlainHead
-  body : List ℕ
-  used : ℕ
-  expect : Bool
-  front : f ≡ message head body used expect
-  asks_for : asked head body ≡ Some q
+pub record IsMessage (f : Front) (q : RequestSeen) : Type 0 where
+  pub head : PlainHead
+  pub body : List ℕ
+  pub used : ℕ
+  pub expect : Bool
+  pub front : f ≡ message head body used expect
+  pub asks_for : asked head body ≡ Some q
 
-message_of : (continued : Bool) (f : Front) (q : RequestSeen) → to_take continued f ≡ Some (asks q) → IsMessage f q
+pub message_of : (continued : Bool) (f : Front) (q : RequestSeen) → to_take continued f ≡ Some (asks q) → IsMessage f q
 message_of continued f q is = by (expected f && not continued) is
   where
     whole : (head : PlainHead) (body : List ℕ) (used : ℕ) (expect : Bool) → f ≡ message head body used expect → (r : Option RequestSeen) → asked head body ≡ r → Some (read_as r) ≡ Some (asks q) → IsMessage f q
@@ -405,21 +405,24 @@ never_interrupts continued f is = by (expected f && not continued) is
     by false said = (never_found f interrupts said).1 refl
 
 -- the dialogue before a message is taken
-record Before (site : Site) (c : ℕ) (seen : List Sighting) (s : State) (z : Connection) (x : Talk) : Type 0 where
-  dialogue : Dialogue site c seen (Some x)
-  same : IsTalk z x
-  places : length s.http.places ≡ 64
+pub record Before (site : Site) (c : ℕ) (seen : List Sighting) (s : State) (z : Connection) (x : Talk) : Type 0 where
+  pub dialogue : Dialogue site c seen (Some x)
+  pub same : IsTalk z x
+  pub places : length s.http.places ≡ 64
 
-before_of : (site : Site) (c : ℕ) (seen : List Sighting) (s : State) (z : Connection) → Keeps site c seen s → connection_at c s.http ≡ Some z → (x : Talk) × Before site c seen s z x
+pub before_of : (site : Site) (c : ℕ) (seen : List Sighting) (s : State) (z : Connection) → Keeps site c seen s → connection_at c s.http ≡ Some z → (x : Talk) × Before site c seen s z x
 before_of site c seen s z k there = by k.converses.talk refl
   where
     by : (talk : Option Talk) → k.converses.talk ≡ talk → (x : Talk) × Before site c seen s z x
     by None is = absurd (subst (λ (y : Option Connection). AreSame y None) there (subst (λ (y : Option Talk). AreSame (connection_at c s.http) y) is k.converses.same))
-    by (Some x) is = (x, record {
-      dialogue = subst (λ (y : Option Talk). Dialogue site c seen y) is k.converses.dialogue;
-      same = subst (λ (y : Option Connection). AreSame y (Some x)) there (subst (λ (y : Option Talk). AreSame (connection_at c s.http) y) is k.converses.same);
-      places = k.places;
-    })
+    by (Some x) is = (
+      x,
+      record {
+        dialogue = subst (λ (y : Option Talk). Dialogue site c seen y) is k.converses.dialogue;
+        same = subst (λ (y : Option Connection). AreSame y (Some x)) there (subst (λ (y : Option Talk). AreSame (connection_at c s.http) y) is k.converses.same);
+        places = k.places;
+      },
+    )
 
 -- the connections after something was taken
 taken_at : (c : ℕ) (y : Option Connection) (h k : Streams) → c < 64 → length h.places ≡ 64 → k ≡ with_connection c y (without_wait c h) → (connection_at c k ≡ y) × (length k.places ≡ 64)
@@ -532,7 +535,7 @@ taken_mine site c interrupts seen a s n t z y x below b (is_interrupted o owed r
       places = ap (λ (h : Streams). length h.places) http_is ∙ at_c.1;
     })
 
-next_keeps : (site : Site) (c d : ℕ) → c < 64 → KeepsOn site c (TakesNextMessage site d)
+pub next_keeps : (site : Site) (c d : ℕ) → c < 64 → KeepsOn site c (TakesNextMessage site d)
 next_keeps site c d below seen a s t k (taken, w) = by (c == d) refl
   where
     mine : Takes c taken s.http w.one.0 → AnswersTaken site c taken w.mid w.second t → Keeps site c (seen ++ a) t
@@ -550,10 +553,63 @@ next_keeps site c d below seen a s t k (taken, w) = by (c == d) refl
         keeps_then site c (OnHttp (λ now. Takes d taken)) (AnswersTaken site d taken)
         (http_keeps site c (λ now. Takes d taken) (λ now h l p. other_untouched c d p.1 h l test p.4)) (taken_keeps site c d taken below test) seen a s t k w
 
+-- bytes came, of a connection that is open or isn't
+lengthened_mine : (site : Site) (c : ℕ) (e : EventWithBytes) (count : ℕ) (seen : List Sighting) (s : State) (h : Streams) → c < 64 → Keeps site c seen s → e.event.what ≡ what.Bytes c count → Lengthened c e.bytes s.moment s.http h
+    → Keeps site c (seen ++ at_network (heard e) ∷ []) (record s { http = h })
+lengthened_mine site c e count seen s h below k is after = by_talk k.converses.talk refl (connection_at c s.http) refl
+  where
+    places : length h.places ≡ 64
+    places = ap (λ (x : Streams). length x.places) after ∙ length-set s.http.places c (option_map (lengthened e.bytes s.moment) (connection_at c s.http)) ∙ k.places
+
+    at_c : connection_at c h ≡ option_map (lengthened e.bytes s.moment) (connection_at c s.http)
+    at_c = ap (connection_at c) after ∙ connection_is c (option_map (lengthened e.bytes s.moment) (connection_at c s.http)) s.http below k.places
+
+    by_talk : (talk : Option Talk) → k.converses.talk ≡ talk → (x : Option Connection) → connection_at c s.http ≡ x → Keeps site c (seen ++ at_network (heard e) ∷ []) (record s { http = h })
+    by_talk None none None gone = record {
+      converses = record {
+        talk = None;
+        dialogue = bytes_are_late seen e count (subst (λ (y : Option Talk). Dialogue site c seen y) none k.converses.dialogue) is;
+        same = subst (λ (v : Option Connection). AreSame v None) (sym (at_c ∙ ap (option_map (lengthened e.bytes s.moment)) gone)) tt;
+        waits = tt;
+      };
+      places = places;
+    }
+    by_talk (Some y) some (Some z) there =
+        let one : IsTalk z y = subst (λ (v : Option Connection). AreSame v (Some y)) there (subst (λ (v : Option Talk). AreSame (connection_at c s.http) v) some k.converses.same) in
+        let waits : PendingWaits c s.http (Some y) = subst (λ (v : Option Talk). PendingWaits c s.http v) some k.converses.waits in
+        record {
+          converses = record {
+            talk = Some (record y { stream = y.stream ++ e.bytes });
+            dialogue = bytes_come seen e count y (subst (λ (v : Option Talk). Dialogue site c seen v) some k.converses.dialogue) is;
+            same = subst (λ (v : Option Connection). AreSame v (Some (record y { stream = y.stream ++ e.bytes }))) (sym (at_c ∙ ap (option_map (lengthened e.bytes s.moment)) there))
+                (record { stream = ap (λ (l : List ℕ). l ++ e.bytes) one.stream; taken = one.taken; continued = one.continued; owed = one.owed });
+            waits = λ p pending. let w = waits p pending in (ap (λ (v : Streams). is_waiting c v.waits) after ∙ w.0, w.1, w.2);
+          };
+          places = places;
+        }
+    by_talk None none (Some z) there =
+        absurd (subst (λ (v : Option Connection). AreSame v None) there (subst (λ (v : Option Talk). AreSame (connection_at c s.http) v) none k.converses.same))
+    by_talk (Some y) some None gone =
+        absurd (subst (λ (v : Option Connection). AreSame v (Some y)) gone (subst (λ (v : Option Talk). AreSame (connection_at c s.http) v) some k.converses.same))
+
+pub lengthened_keeps : (site : Site) (c d count : ℕ) (e : EventWithBytes) (seen a : List Sighting) (s t : State) → c < 64 → e.event.what ≡ what.Bytes d count → Keeps site c seen s → OnHttp (Lengthened d e.bytes) s a t
+    → Keeps site c (seen ++ at_network (heard e) ∷ a) t
+lengthened_keeps site c d count e seen a s t below is k (h, long, p) = by (c == d) refl
+  where
+    by : (test : Bool) → (c == d) ≡ test → Keeps site c (seen ++ at_network (heard e) ∷ a) t
+    by true test =
+        let same : c ≡ d = same_of c d test in
+        keeps_here site c (seen ++ at_network (heard e) ∷ []) (seen ++ at_network (heard e) ∷ a) (record s { http = h }) t (ap (λ (l : List Sighting). seen ++ at_network (heard e) ∷ l) p.saw) p.next
+        (lengthened_mine site c e count seen s h below k (is ∙ ap (λ (n : ℕ). what.Bytes n count) (sym same)) (subst (λ (n : ℕ). Lengthened n e.bytes s.moment s.http h) (sym same) long))
+    by false test =
+        keeps_here site c (seen ++ at_network (heard e) ∷ a) (seen ++ at_network (heard e) ∷ a) (record s { http = h }) t refl p.next
+        (untouched_keeps site c seen (at_network (heard e) ∷ a) s (record s { http = h }) k (place_untouched c d (option_map (lengthened e.bytes s.moment) (connection_at d s.http)) s.http h test long)
+        (one_more (at_network (heard e)) a (ap (is_event_of c) is ∙ test) (subst (λ (l : List Sighting). NoneIsOf c l) (sym p.saw) no_more)))
+
 -- ---- events
 
 -- the connection of an event, which is heard first
-heard_keeps : (site : Site) (c : ℕ) (e : EventWithBytes) (w : What) (seen : List Sighting) (s t : State) (a : List Sighting) → c < 64 → e.event.what ≡ w → Keeps site c seen s → Follows site w e.bytes s a t
+pub heard_keeps : (site : Site) (c : ℕ) (e : EventWithBytes) (w : What) (seen : List Sighting) (s t : State) (a : List Sighting) → c < 64 → e.event.what ≡ w → Keeps site c seen s → Follows site w e.bytes s a t
     → Keeps site c (seen ++ at_network (heard e) ∷ a) t
 heard_keeps site c e w seen s t a below is k follows = by w is follows
   where
@@ -596,89 +652,48 @@ heard_keeps site c e w seen s t a below is k follows = by w is follows
         changed None None (has_ended seen e k.converses.talk k.converses.dialogue (is ∙ ap what.Ended (sym same))) tt tt
         (ap (λ (v : State). v.http) on.2.next ∙ subst (λ (n : ℕ). Ended n s.http on.0) (sym same) on.1) on.2.saw
 
-    -- bytes came, of a connection that is open or isn't
-    lengthens : (h : Streams) (count : ℕ) → e.event.what ≡ what.Bytes c count → Lengthened c e.bytes s.moment s.http h → Keeps site c (seen ++ at_network (heard e) ∷ []) (record s { http = h })
-    lengthens h count is after = by_talk k.converses.talk refl (connection_at c s.http) refl
-      where
-        places : length h.places ≡ 64
-        places = ap (λ (x : Streams). length x.places) after ∙ length-set s.http.places c (option_map (lengthened e.bytes s.moment) (connection_at c s.http)) ∙ k.places
-
-        at_c : connection_at c h ≡ option_map (lengthened e.bytes s.moment) (connection_at c s.http)
-        at_c = ap (connection_at c) after ∙ connection_is c (option_map (lengthened e.bytes s.moment) (connection_at c s.http)) s.http below k.places
-
-        by_talk : (talk : Option Talk) → k.converses.talk ≡ talk → (x : Option Connection) → connection_at c s.http ≡ x → Keeps site c (seen ++ at_network (heard e) ∷ []) (record s { http = h })
-        by_talk None none None gone = record {
-          converses = record {
-            talk = None;
-            dialogue = bytes_are_late seen e count (subst (λ (y : Option Talk). Dialogue site c seen y) none k.converses.dialogue) is;
-            same = subst (λ (v : Option Connection). AreSame v None) (sym (at_c ∙ ap (option_map (lengthened e.bytes s.moment)) gone)) tt;
-            waits = tt;
-          };
-          places = places;
-        }
-        by_talk (Some y) some (Some z) there =
-            let one : IsTalk z y = subst (λ (v : Option Connection). AreSame v (Some y)) there (subst (λ (v : Option Talk). AreSame (connection_at c s.http) v) some k.converses.same) in
-            let waits : PendingWaits c s.http (Some y) = subst (λ (v : Option Talk). PendingWaits c s.http v) some k.converses.waits in
-            record {
-              converses = record {
-                talk = Some (record y { stream = y.stream ++ e.bytes });
-                dialogue = bytes_come seen e count y (subst (λ (v : Option Talk). Dialogue site c seen v) some k.converses.dialogue) is;
-                same = subst (λ (v : Option Connection). AreSame v (Some (record y { stream = y.stream ++ e.bytes }))) (sym (at_c ∙ ap (option_map (lengthened e.bytes s.moment)) there))
-                    (record { stream = ap (λ (l : List ℕ). l ++ e.bytes) one.stream; taken = one.taken; continued = one.continued; owed = one.owed });
-                waits = λ p pending. let w = waits p pending in (ap (λ (v : Streams). is_waiting c v.waits) after ∙ w.0, w.1, w.2);
-              };
-              places = places;
-            }
-        by_talk None none (Some z) there =
-            absurd (subst (λ (v : Option Connection). AreSame v None) there (subst (λ (v : Option Talk). AreSame (connection_at c s.http) v) none k.converses.same))
-        by_talk (Some y) some None gone =
-            absurd (subst (λ (v : Option Connection). AreSame v (Some y)) gone (subst (λ (v : Option Talk). AreSame (connection_at c s.http) v) some k.converses.same))
-
     takes_all : (d : ℕ) → KeepsOn site c (TakesEveryMessage site d)
     takes_all d = keeps_until site c (TakesNextMessage site d) (λ s. IsDry d s.http) (next_keeps site c d below)
 
-    bytes : (d count : ℕ) → e.event.what ≡ what.Bytes d count → (test : Bool) → (c == d) ≡ test → Follows site (what.Bytes d count) e.bytes s a t → Keeps site c (seen ++ at_network (heard e) ∷ a) t
-    bytes d count is false test both =
-        then_it (HearsPiece site d e.bytes)
-        (keeps_then site c (OnHttp (Lengthened d e.bytes)) (TakesEveryMessage site d) (http_keeps site c (Lengthened d e.bytes)
-        (λ now h l p. place_untouched c d (option_map (lengthened e.bytes now) (connection_at d h)) h l test p)) (takes_all d)) (others (what.Bytes d count) is test) both
-    bytes d count is true test both =
-        let same : c ≡ d = same_of c d test in
-        let long : Lengthened c e.bytes s.moment s.http both.one.0 = subst (λ (n : ℕ). Lengthened n e.bytes s.moment s.http both.one.0) (sym same) both.one.1 in
-        let after = lengthens both.one.0 count (is ∙ ap (λ (n : ℕ). what.Bytes n count) (sym same)) long in
-        keeps_here site c ((seen ++ at_network (heard e) ∷ []) ++ both.second) (seen ++ at_network (heard e) ∷ a) t t
-        (ap (λ (l : List Sighting). seen ++ at_network (heard e) ∷ l) (both.whole ∙ ap (λ (l : List Sighting). l ++ both.second) both.one.2.saw) ∙ sym (append_assoc seen (at_network (heard e) ∷ []) both.second)) refl
-        (takes_all d (seen ++ at_network (heard e) ∷ []) both.second both.mid t
-        (keeps_here site c (seen ++ at_network (heard e) ∷ []) (seen ++ at_network (heard e) ∷ []) (record s { http = both.one.0 }) both.mid refl both.one.2.next after) both.other)
+    bytes : (d count : ℕ) → e.event.what ≡ what.Bytes d count → Follows site (what.Bytes d count) e.bytes s a t → Keeps site c (seen ++ at_network (heard e) ∷ a) t
+    bytes d count is both =
+        keeps_here site c ((seen ++ at_network (heard e) ∷ both.first) ++ both.second) (seen ++ at_network (heard e) ∷ a) t t
+        (ap (λ (l : List Sighting). seen ++ at_network (heard e) ∷ l) both.whole ∙ sym (append_assoc seen (at_network (heard e) ∷ both.first) both.second)) refl
+        (takes_all d (seen ++ at_network (heard e) ∷ both.first) both.second both.mid t (lengthened_keeps site c d count e seen both.first s both.mid below is k both.one) both.other)
 
     by : (w : What) → e.event.what ≡ w → Follows site w e.bytes s a t → Keeps site c (seen ++ at_network (heard e) ∷ a) t
     by (what.Opened d) is on = opened d is (c == d) refl on
-    by (what.Bytes d count) is both = bytes d count is (c == d) refl both
+    by (what.Bytes d count) is both = bytes d count is both
     by (what.Ended d) is on = ended d is (c == d) refl on
     by (what.Datagram from count) is on = then_it (HearsDatagram site from e.bytes) (hears_keep site c from e.bytes below) (others (what.Datagram from count) is refl) on
     by what.Tick is on = then_it (Each PollsAndDelivers (events_of site)) (keeps_each site c PollsAndDelivers (events_of site) (λ p. polls_keep site c p below)) (others what.Tick is refl) on
     by what.Stop is stays =
         then_it (λ s a t. Becomes s [] a t) (λ seen a s t k p. aside_keeps site c seen a [] s t s k refl p no_more) (others what.Stop is refl) stays
 
-event_keeps : (site : Site) (c : ℕ) (e : EventWithBytes) → c < 64 → KeepsOn site c (EventAndStep site e)
+-- the machine's moment says nothing of it
+pub at_moment : (site : Site) (c : ℕ) (seen : List Sighting) (s : State) (now : ℕ) → Keeps site c seen s → Keeps site c seen (record s { moment = now })
+at_moment site c seen s now k =
+    record { converses = record { talk = k.converses.talk; dialogue = k.converses.dialogue; same = k.converses.same; waits = k.converses.waits }; places = k.places }
+
+pub event_keeps : (site : Site) (c : ℕ) (e : EventWithBytes) → c < 64 → KeepsOn site c (EventAndStep site e)
 event_keeps site c e below seen a s t k w =
     let step : Step site e s w.second t = subst (λ (x : State). Step site e x w.second t) w.one.next w.other in
     let moved : State = record s { moment = max s.moment e.event.moment } in
-    let before : Keeps site c seen moved = record { converses = record { talk = k.converses.talk; dialogue = k.converses.dialogue; same = k.converses.same; waits = k.converses.waits }; places = k.places } in
+    let before : Keeps site c seen moved = at_moment site c seen s (max s.moment e.event.moment) k in
     let after = heard_keeps site c e e.event.what seen moved step.mid step.first below refl before step.one in
     keeps_here site c ((seen ++ at_network (heard e) ∷ step.first) ++ step.second) (seen ++ a) t t
     (ap (λ (l : List Sighting). seen ++ l) (w.whole ∙ ap₂ (λ (u v : List Sighting). u ++ v) w.one.saw step.whole) ∙ sym (append_assoc seen (at_network (heard e) ∷ step.first) step.second)) refl
     (ends_keep site c below (seen ++ at_network (heard e) ∷ step.first) step.second step.mid t after step.other)
 
-nothing_open : (c : ℕ) → c < 64 → connection_at c none_open ≡ None
+pub nothing_open : (c : ℕ) → c < 64 → connection_at c none_open ≡ None
 nothing_open c below = get_or-replicate 64 c None None below
+
+pub first_keeps : (site : Site) (exchanges : ℕ) (epoch : Option ℕ) (c : ℕ) → c < 64 → Keeps site c [] (start site exchanges epoch)
+first_keeps site exchanges epoch c below = record {
+  converses = record { talk = None; dialogue = begins; same = subst (λ (v : Option Connection). AreSame v None) (sym (nothing_open c below)) tt; waits = tt };
+  places = refl;
+}
 
 pub responses_pair_with_requests : ResponsesPairWithRequests
 responses_pair_with_requests site exchanges epoch took seen s c below run =
-    (keeps_each site c (EventAndStep site) took (λ e. event_keeps site c e below) [] seen (start site exchanges epoch) s first run).converses
-  where
-    first : Keeps site c [] (start site exchanges epoch)
-    first = record {
-      converses = record { talk = None; dialogue = begins; same = subst (λ (v : Option Connection). AreSame v None) (sym (nothing_open c below)) tt; waits = tt };
-      places = refl;
-    }
+    (keeps_each site c (EventAndStep site) took (λ e. event_keeps site c e below) [] seen (start site exchanges epoch) s (first_keeps site exchanges epoch c below) run).converses

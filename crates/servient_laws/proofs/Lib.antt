@@ -46,3 +46,5 @@ mod DirectorySteps
 mod DirectoryLaws
 mod DialogueSteps
 mod DialogueMoves
+mod CallsOfActs
+mod CallRuns

@@ -12,3 +12,4 @@ pub mod Failures
 pub mod Sections
 pub mod DirectoryRuns
 pub mod Dialogues
+pub mod CallRequests

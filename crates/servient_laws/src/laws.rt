@@ -1,7 +1,9 @@
 //! Laws over whole runs.
 
+ghost use Rattle.servient_laws.specs.CallRequests.{CallsHaveRequests};
 ghost use Rattle.servient_laws.specs.Calls.{CallsAreFit};
 ghost use Rattle.servient_laws.specs.Determined.{RunsAreDetermined};
+ghost use Rattle.servient_laws.specs.Dialogues.{ResponsesPairWithRequests};
 ghost use Rattle.servient_laws.specs.DirectoryRuns.{DirectoryGivesOutWhatStands};
 ghost use Rattle.servient_laws.specs.Failures.{FailuresAreCounted};
 ghost use Rattle.servient_laws.specs.InMemory.{NothingFailsInMemory};
@@ -30,6 +32,20 @@ pub fn full_tables_act_on_nothing()
 /// handed in is accepted by its schema and has at most 1,024 bytes.
 pub fn calls_are_fit()
     ensures { CallsAreFit }
+{}
+
+/// Each response that is sent on a connection of HTTP is the final one of the request that was taken from it last, and says
+/// that request's outcome; or it is a 100 for the message at the front, or the one to a fault, before the close. Nothing is
+/// sent after a close or an end until the connection is opened anew, and a request that has no response waits.
+pub fn responses_pair_with_requests()
+    ensures { ResponsesPairWithRequests }
+{}
+
+/// Each call of a handler in a run polls an event on a tick, or is one of a request that came, by a datagram or as the message
+/// at the front of a connection's stream: the next of those that the act asks for which its path and its verb lead to, up to
+/// one that fails. Each such datagram and each such message counts once.
+pub fn calls_have_requests()
+    ensures { CallsHaveRequests }
 {}
 
 /// A run in which the handlers forget their turns now and then keeps these three: it is one run of the machine over all

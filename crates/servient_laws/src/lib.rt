@@ -10,6 +10,8 @@
 //!   `joined_bodies_act_once`.
 //! - A full table of exchanges acts on nothing: `full_tables_act_on_nothing`.
 //! - A value that its schema refuses reaches no device: `calls_are_fit`, said of the calls alone.
+//! - Each response by HTTP is that of its request, `responses_pair_with_requests`, and each call of a handler has a request
+//!   that came, `calls_have_requests`.
 //! - A run that forgets keeps these three, `sections_keep_promises`.
 //! - A request that was out of memory made no call, or ended at a handler that was: `memory_is_seen`.
 //! - Polls that were left out and operations that stopped at a handler are counted as its misses: `stops_are_counted`.
@@ -28,9 +30,9 @@
 mod laws;
 
 pub use laws::{
-    calls_are_fit, directory_gives_out_what_stands, failures_are_counted, faults_take_no_event,
-    full_tables_act_on_nothing, handlers_stay, joined_bodies_act_once, later_blocks_are_of_one_act,
-    memory_is_seen, nothing_fails_in_memory, payloads_are_of_outcomes, repeats_act_once,
-    requests_act_once, requests_are_spoken, runs_are_determined, sections_keep_promises,
-    stops_are_counted,
+    calls_are_fit, calls_have_requests, directory_gives_out_what_stands, failures_are_counted,
+    faults_take_no_event, full_tables_act_on_nothing, handlers_stay, joined_bodies_act_once,
+    later_blocks_are_of_one_act, memory_is_seen, nothing_fails_in_memory, payloads_are_of_outcomes,
+    repeats_act_once, requests_act_once, requests_are_spoken, responses_pair_with_requests,
+    runs_are_determined, sections_keep_promises, stops_are_counted,
 };

@@ -77,12 +77,12 @@ ActionCalls name way Poll result calls = calls ≡ []
 -- invocation was begun just where the input's text was written.
 pub data InvokeCalls (d : RunningDevice) (text : Option (List ℕ)) (result : Result Answer AllocError) (calls : List FileCall) : Type 0 where
   looked : ReadsAtMostOnce d.status calls → is_done result ≡ false → InvokeCalls d text result calls
-  unmarked : (bytes : List ℕ) (got : Got) (write : Wrote) (fault : ℕ) → calls ≡ file_call.Read d.status bytes got ∷ file_call.Write d.status (codes "running") write ∷ []
+  status_unwritten : (bytes : List ℕ) (got : Got) (write : Wrote) (fault : ℕ) → calls ≡ file_call.Read d.status bytes got ∷ file_call.Write d.status (codes "running") write ∷ []
       → is_written write ≡ false → result ≡ Ok (DeviceFault fault) → InvokeCalls d text result calls
-  handed_in : (bytes content : List ℕ) (got : Got) → text ≡ Some content
+  was_handed_in : (bytes content : List ℕ) (got : Got) → text ≡ Some content
       → calls ≡ file_call.Read d.status bytes got ∷ file_call.Write d.status (codes "running") wrote.Done ∷ file_call.Write d.action content wrote.Done ∷ []
       → result ≡ Ok Started → InvokeCalls d text result calls
-  undone : (bytes content : List ℕ) (got : Got) (write emptied : Wrote) (fault : ℕ) → text ≡ Some content
+  was_undone : (bytes content : List ℕ) (got : Got) (write emptied : Wrote) (fault : ℕ) → text ≡ Some content
       → calls ≡ file_call.Read d.status bytes got ∷ file_call.Write d.status (codes "running") wrote.Done ∷ file_call.Write d.action content write ∷ file_call.Write d.status [] emptied ∷ []
       → is_written write ≡ false → result ≡ Ok (DeviceFault fault) → InvokeCalls d text result calls
 
@@ -94,12 +94,12 @@ QueryCalls d asked.Last calls = ReadsAtMostOnce d.status calls
 
 -- Those of a Cancel of the last invocation, where this file cancels. Without an answer nothing is written.
 pub data StopCalls (cancel status : List ℕ) (id : ℕ) (result : Result Answer AllocError) (calls : List FileCall) : Type 0 where
-  missed : (e : AllocError) → calls ≡ [] → result ≡ Err e → StopCalls cancel status id result calls
-  unsaid : (write : Wrote) (fault : ℕ) → calls ≡ file_call.Write cancel (decimal id) write ∷ [] → is_written write ≡ false → result ≡ Ok (DeviceFault fault)
+  out_of_memory : (e : AllocError) → calls ≡ [] → result ≡ Err e → StopCalls cancel status id result calls
+  id_unwritten : (write : Wrote) (fault : ℕ) → calls ≡ file_call.Write cancel (decimal id) write ∷ [] → is_written write ≡ false → result ≡ Ok (DeviceFault fault)
       → StopCalls cancel status id result calls
-  unmarked : (write : Wrote) (fault : ℕ) → calls ≡ file_call.Write cancel (decimal id) wrote.Done ∷ file_call.Write status (codes "cancelled") write ∷ []
+  end_unwritten : (write : Wrote) (fault : ℕ) → calls ≡ file_call.Write cancel (decimal id) wrote.Done ∷ file_call.Write status (codes "cancelled") write ∷ []
       → is_written write ≡ false → result ≡ Ok (DeviceFault fault) → StopCalls cancel status id result calls
-  cancelled : calls ≡ file_call.Write cancel (decimal id) wrote.Done ∷ file_call.Write status (codes "cancelled") wrote.Done ∷ []
+  was_cancelled : calls ≡ file_call.Write cancel (decimal id) wrote.Done ∷ file_call.Write status (codes "cancelled") wrote.Done ∷ []
       → result ≡ Ok Cancelled → StopCalls cancel status id result calls
 
 abbrev pub LastCalls : Option (List ℕ) → List ℕ → ℕ → Result Answer AllocError → List FileCall → Type 0

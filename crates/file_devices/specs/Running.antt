@@ -55,14 +55,16 @@ ready_by (Some answer) text = Err answer
 ready_by None None = Err (DeviceFault (fault_number fault.NoText))
 ready_by None (Some text) = Ok (record { running = codes "running"; input = text })
 
--- Beginning an invocation: the status says that one runs, and then the action gets the input. Where it doesn't, the
--- status is emptied, if that can be done.
+-- Handing the input in: it is written to the action. Where that can't be done the status is emptied, if it can be.
+pub data HandsIn (before now : FilesSeen) (d : RunningDevice) (input : List ℕ) (begun : Result (Unit {0}) FileFault) : Type 0 where
+  handed_in : PutsText before now d.action input (Ok tt) → begun ≡ Ok tt → HandsIn before now d input begun
+  undone : (refused : FilesSeen) (f : FileFault) (emptied : Result (Unit {0}) FileFault) → PutsText before refused d.action input (Err f)
+      → PutsText refused now d.status [] emptied → begun ≡ Err f → HandsIn before now d input begun
+
+-- Beginning an invocation: the status says that one runs, and then the input is handed in.
 pub data Begins (before now : FilesSeen) (d : RunningDevice) (texts : StartTexts) (begun : Result (Unit {0}) FileFault) : Type 0 where
   unmarked : (f : FileFault) → PutsText before now d.status texts.running (Err f) → begun ≡ Err f → Begins before now d texts begun
-  handed_in : (marked : FilesSeen) → PutsText before marked d.status texts.running (Ok tt) → PutsText marked now d.action texts.input (Ok tt) → begun ≡ Ok tt
-      → Begins before now d texts begun
-  undone : (marked refused : FilesSeen) (f : FileFault) (emptied : Result (Unit {0}) FileFault) → PutsText before marked d.status texts.running (Ok tt)
-      → PutsText marked refused d.action texts.input (Err f) → PutsText refused now d.status [] emptied → begun ≡ Err f → Begins before now d texts begun
+  marked : (mid : FilesSeen) → PutsText before mid d.status texts.running (Ok tt) → HandsIn mid now d texts.input begun → Begins before now d texts begun
 
 -- the invocation that was begun last, after this one was begun or wasn't
 abbrev pub last_after : Option ℕ → ℕ → Result (Unit {0}) FileFault → Option ℕ
@@ -108,7 +110,7 @@ StatusAnswers way (Err f) answer = answer ≡ DeviceFault (fault_number f)
 
 -- a Query of the last invocation reads the status
 pub data StatusAsked (before now : FilesSeen) (d : RunningDevice) (answer : Answer) : Type 0 where
-  read : (status : Result (List ℕ) FileFault) → FindsContent before now d.status status → StatusAnswers d.notation status answer → StatusAsked before now d answer
+  status_read : (status : Result (List ℕ) FileFault) → FindsContent before now d.status status → StatusAnswers d.notation status answer → StatusAsked before now d answer
 
 abbrev pub RunQueries : FilesSeen → FilesSeen → RunningDevice → Asked → Answer → Type 0
 RunQueries before now d asked.NoneBegun answer = Refuses before now 1 answer

@@ -14,7 +14,7 @@ use thing_handler::Answer;
 use wot_json::Bytes;
 
 /// The content that a file of at most `LONGEST` bytes holds now.
-#[tactic(auto, using(crate::proofs::Looks::whole_found, crate::proofs::Looks::absent_found, crate::proofs::Looks::too_long_found, crate::proofs::Looks::failed_found, crate::proofs::OnceLaws::read_told))]
+#[tactic(auto, using(crate::proofs::Looks::absent_found, crate::proofs::Looks::too_long_found, crate::proofs::Looks::failed_found, crate::proofs::OnceLaws::read_told))]
 pub fn content_in<D: DeviceFiles>(
     files: &mut D,
     alloc: Global,

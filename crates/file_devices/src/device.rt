@@ -44,7 +44,6 @@ impl<D: DeviceFiles> Device<D> {
     }
 
     /// The value that the file holds now.
-    #[tactic(auto, using(crate::proofs::Looks::content_valued, crate::proofs::Looks::content_missing))]
     pub fn value(&mut self, alloc: Global) -> Result<Result<Tree, FileFault>, NoMemory>
         ensures found { IfOk result (Finds (D.seen self.old.files) (D.seen self.new.files) self.old.name self.old.notation) }
         ensures held { (D.seen self.new.files).held ≡ (D.seen self.old.files).held }

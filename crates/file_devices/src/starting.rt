@@ -69,7 +69,7 @@ fn hindrance(status: &Result<Bytes, FileFault>) -> Option<Answer>
     }
 }
 
-/// Writes the status, and then the input. Where that isn't written the status is emptied, if it can be.
+/// Writes the status, and then hands the input in.
 pub fn begin<D: DeviceFiles>(
     files: &mut D,
     device: &RunningDevice,
@@ -79,13 +79,29 @@ pub fn begin<D: DeviceFiles>(
     ensures { spec.Begins (D.seen files.old) (D.seen files.new) device.now texts result }
 {
     let StartTexts { running, input } = texts;
-    put_content(files, device.status.as_str(), running)?;
-    let begun = put_content(files, device.action.as_str(), input);
-    if begun.is_err() {
-        // The fault that is told is that of the action, whether the status can be emptied or not.
-        let _emptied = put_content(files, device.status.as_str(), Bytes::new(alloc));
+    match put_content(files, device.status.as_str(), running) {
+        Ok(()) => hand_in(files, device, alloc, input),
+        Err(fault) => Err(fault),
     }
-    begun
+}
+
+/// Writes the input. Where that can't be done the status is emptied, if it can be.
+fn hand_in<D: DeviceFiles>(
+    files: &mut D,
+    device: &RunningDevice,
+    alloc: Global,
+    input: Bytes,
+) -> Result<(), FileFault>
+    ensures { spec.HandsIn (D.seen files.old) (D.seen files.new) device.now input result }
+{
+    match put_content(files, device.action.as_str(), input) {
+        Ok(()) => Ok(()),
+        Err(fault) => {
+            // The fault that is told is that of the action, whether the status is emptied or not.
+            let _emptied = put_content(files, device.status.as_str(), Bytes::new(alloc));
+            Err(fault)
+        }
+    }
 }
 
 /// The invocation that was begun last, after that of this id was begun or wasn't.

@@ -42,6 +42,8 @@ pub fn stop<D: DeviceFiles>(
     ensures { spec.Stops (D.seen files.old) (D.seen files.new) cancel.now status.now texts result }
 {
     let StopTexts { id, cancelled } = texts;
-    put_content(files, cancel, id)?;
-    put_content(files, status, cancelled)
+    match put_content(files, cancel, id) {
+        Ok(()) => put_content(files, status, cancelled),
+        Err(fault) => Err(fault),
+    }
 }

@@ -32,10 +32,10 @@ abbrev Looked : FilesSeen → FilesSeen → List ℕ → Type 0
 Looked before now name = (bytes : List ℕ) × (got : Got) × MakesCall before now (file_call.Read name bytes got)
 
 looked_by : (before now : FilesSeen) (name : List ℕ) (content : Result (List ℕ) FileFault) → FindsContent before now name content → Looked before now name
-looked_by before now name content (whole bytes short holds asks is) = (bytes, (got.Whole, asks.call))
-looked_by before now name content (absent holds asks is) = ([], (got.Absent, asks.call))
-looked_by before now name content (too_long holds asks is) = ([], (got.TooLong, asks.call))
-looked_by before now name content (failed fails held call is) = ([], (got.Failed, call))
+looked_by before now name content (whole bytes short holds asks is) = (bytes, got.Whole, asks.call)
+looked_by before now name content (absent holds asks is) = ([], got.Absent, asks.call)
+looked_by before now name content (too_long holds asks is) = ([], got.TooLong, asks.call)
+looked_by before now name content (failed fails held call is) = ([], got.Failed, call)
 
 -- the write of a text that was put, and of one that wasn't
 put_done : (before now : FilesSeen) (name text : List ℕ) → PutsText before now name text (Ok tt) → MakesCall before now (file_call.Write name text wrote.Done)
@@ -48,8 +48,8 @@ NotPut before now name text = (w : Wrote) × (is_written w ≡ false) × MakesCa
 
 not_put : (before now : FilesSeen) (name text : List ℕ) (f : FileFault) → PutsText before now name text (Err f) → NotPut before now name text
 not_put before now name text f (was_written writes is) = absurd cc
-not_put before now name text f (was_absent writes is) = (wrote.Absent, (refl, writes.call))
-not_put before now name text f (has_failed writes is) = (wrote.Failed, (refl, writes.call))
+not_put before now name text f (was_absent writes is) = (wrote.Absent, refl, writes.call)
+not_put before now name text f (has_failed writes is) = (wrote.Failed, refl, writes.call)
 
 abbrev AnyPut : FilesSeen → FilesSeen → List ℕ → List ℕ → Type 0
 AnyPut before now name text = (w : Wrote) × MakesCall before now (file_call.Write name text w)
@@ -119,9 +119,9 @@ handed_told before seen mid now d content bytes got begun read mark (undone refu
     subst (λ (b : Result (Unit {0}) FileFault). Tells (InvokeCalls d (Some content) (Ok (put_answer Started b))) before now) (sym is)
     (record {
       calls = file_call.Read d.status bytes got ∷ file_call.Write d.status (codes "running") wrote.Done ∷ file_call.Write d.action content n.0 ∷ file_call.Write d.status [] e.0 ∷ [];
-      told = was_undone bytes content got n.0 e.0 (fault_number f) refl refl n.1.0 refl;
+      told = was_undone bytes content got n.0 e.0 (fault_number f) refl refl n.1 refl;
       continued = continues_then before.calls refused.calls now.calls _ _
-          (continues_then before.calls mid.calls refused.calls _ _ (continues_then before.calls seen.calls mid.calls _ _ read mark) n.1.1) e.1;
+          (continues_then before.calls mid.calls refused.calls _ _ (continues_then before.calls seen.calls mid.calls _ _ read mark) n.2) e.1;
     })
 
 begin_told : (before seen now : FilesSeen) (d : RunningDevice) (content bytes : List ℕ) (got : Got) (begun : Result (Unit {0}) FileFault)
@@ -132,8 +132,8 @@ begin_told before seen now d content bytes got begun read (unmarked f puts is) =
     subst (λ (b : Result (Unit {0}) FileFault). Tells (InvokeCalls d (Some content) (Ok (put_answer Started b))) before now) (sym is)
     (record {
       calls = file_call.Read d.status bytes got ∷ file_call.Write d.status (codes "running") n.0 ∷ [];
-      told = status_unwritten bytes got n.0 (fault_number f) refl n.1.0 refl;
-      continued = continues_then before.calls seen.calls now.calls _ _ read n.1.1;
+      told = status_unwritten bytes got n.0 (fault_number f) refl n.1 refl;
+      continued = continues_then before.calls seen.calls now.calls _ _ read n.2;
     })
 begin_told before seen now d content bytes got begun read (marked mid marks hands) =
     handed_told before seen mid now d content bytes got begun read (put_done seen mid d.status (codes "running") marks) hands
@@ -143,16 +143,16 @@ invoke_told : (before now : FilesSeen) (d : RunningDevice) (id : ℕ) (text : Op
 invoke_told before now d id text last next answer (kept_from status finds hinders same) =
     let l = looked_by before now d.status status finds in
     record {
-      calls = file_call.Read d.status l.0 l.1.0 ∷ [];
-      told = looked (was_read l.0 l.1.0 refl) (ready_undone (hindrance status) text answer (hindrance_undone status) hinders);
-      continued = l.1.1;
+      calls = file_call.Read d.status l.0 l.1 ∷ [];
+      told = looked (was_read l.0 l.1 refl) (ready_undone (hindrance status) text answer (hindrance_undone status) hinders);
+      continued = l.2;
     }
 invoke_told before now d id text last next answer (begins status seen texts begun finds ready starts is same) =
     let l = looked_by before seen d.status status finds in
     let t = ready_texts (hindrance status) text texts ready in
     subst (λ (a : Answer). Tells (InvokeCalls d text (Ok a)) before now) (sym is)
     (subst (λ (o : Option (List ℕ)). Tells (InvokeCalls d o (Ok (put_answer Started begun))) before now) (sym t.0)
-    (begin_told before seen now d texts.input l.0 l.1.0 begun l.1.1 (subst (λ (u : StartTexts). Begins seen now d u begun) t.1 starts)))
+    (begin_told before seen now d texts.input l.0 l.1 begun l.2 (subst (λ (u : StartTexts). Begins seen now d u begun) t.1 starts)))
 
 invoke_missed : (before now : FilesSeen) (d : RunningDevice) (text : Option (List ℕ)) (e : AllocError) → Tells (ReadsAtMostOnce d.status) before now
     → Tells (InvokeCalls d text (Err e)) before now
@@ -183,7 +183,7 @@ stop_told : (before now : FilesSeen) (cancel status : List ℕ) (id : ℕ) (stop
 stop_told before now cancel status id stopped (unsaid f puts is) =
     let n = not_put before now cancel (decimal id) f puts in
     subst (λ (b : Result (Unit {0}) FileFault). Tells (StopCalls cancel status id (Ok (put_answer Cancelled b))) before now) (sym is)
-    (record { calls = file_call.Write cancel (decimal id) n.0 ∷ []; told = id_unwritten n.0 (fault_number f) refl n.1.0 refl; continued = n.1.1 })
+    (record { calls = file_call.Write cancel (decimal id) n.0 ∷ []; told = id_unwritten n.0 (fault_number f) refl n.1 refl; continued = n.2 })
 stop_told before now cancel status id (Ok tt) (said mid puts ends) =
     record {
       calls = file_call.Write cancel (decimal id) wrote.Done ∷ file_call.Write status (codes "cancelled") wrote.Done ∷ [];
@@ -194,8 +194,8 @@ stop_told before now cancel status id (Err f) (said mid puts ends) =
     let n = not_put mid now status (codes "cancelled") f ends in
     record {
       calls = file_call.Write cancel (decimal id) wrote.Done ∷ file_call.Write status (codes "cancelled") n.0 ∷ [];
-      told = end_unwritten n.0 (fault_number f) refl n.1.0 refl;
-      continued = continues_then before.calls mid.calls now.calls _ _ (put_done before mid cancel (decimal id) puts) n.1.1;
+      told = end_unwritten n.0 (fault_number f) refl n.1 refl;
+      continued = continues_then before.calls mid.calls now.calls _ _ (put_done before mid cancel (decimal id) puts) n.2;
     }
 
 untouched : (P : List FileCall → Type 0) (before now : FilesSeen) → now ≡ before → P [] → Tells P before now
@@ -223,11 +223,11 @@ cancel_missed d asked.NoneBegun id e = refl
 cancel_missed d asked.Earlier id e = refl
 cancel_missed d asked.Last id e = last_missed d.cancel d.status id e
 
-pub running_cancelled : (before now : FilesSeen) (d : RunningDevice) (last : Option ℕ) (what : CallKind) (id : ℕ) (result : Result Answer AllocError) → what ≡ Cancel id
-    → IfOk result (RunCancels before now d (asked_of last id) id) → OnErr result (now ≡ before) → Tells (RunningCalls d last what result) before now
-running_cancelled before now d last what id (Ok answer) is cancels missed =
-    let told = cancel_told before now d (asked_of last id) id answer cancels in
-    subst (λ (w : CallKind). Tells (RunningCalls d last w (Ok answer)) before now) (sym is) (record { calls = told.calls; told = told.told; continued = told.continued })
-running_cancelled before now d last what id (Err e) is cancels missed =
-    subst (λ (w : CallKind). Tells (RunningCalls d last w (Err e)) before now) (sym is) (untouched _ before now missed (cancel_missed d (asked_of last id) id e))
-
+pub running_cancelled : {D : Type 0} (seen : D → FilesSeen) (before now : D) (d : RunningDevice) (last : Option ℕ) (what : CallKind) (id : ℕ) (result : Result Answer AllocError) → what ≡ Cancel id
+    → IfOk result (RunCancels (seen before) (seen now) d (asked_of last id) id) → OnErr result (now ≡ before) → Tells (RunningCalls d last what result) (seen before) (seen now)
+running_cancelled seen before now d last what id (Ok answer) is cancels missed =
+    let told = cancel_told (seen before) (seen now) d (asked_of last id) id answer cancels in
+    subst (λ (w : CallKind). Tells (RunningCalls d last w (Ok answer)) (seen before) (seen now)) (sym is) (record { calls = told.calls; told = told.told; continued = told.continued })
+running_cancelled seen before now d last what id (Err e) is cancels missed =
+    let told = untouched (CancelCalls d (asked_of last id) id (Err e)) (seen before) (seen now) (ap seen missed) (cancel_missed d (asked_of last id) id e) in
+    subst (λ (w : CallKind). Tells (RunningCalls d last w (Err e)) (seen before) (seen now)) (sym is) (record { calls = told.calls; told = told.told; continued = told.continued })

@@ -1,5 +1,5 @@
 -- From what the steps of an action that runs on give to what it answers.
-use Rattle.std.proofs.Common.{◌≡◌, ℕ, List, Option, Some, refl, sym, ap, subst, ◌∙◌}
+use Rattle.std.proofs.Common.{◌≡◌, ℕ, List, [], Option, Some, refl, sym, ap, subst, ◌∙◌}
 use Rattle.std.specs.Prelude.{Result, Ok, Err, IfOk}
 use Rattle.std.specs.declared.alloc.AllocError.{AllocError}
 use Rattle.thing_handler.specs.declared.handler.Answer.{Answer}
@@ -80,9 +80,9 @@ said_so before mid now cancel status texts put stopped is puts ends = said mid (
 pub cancels_last : (before now : FilesSeen) (wanted : Option (List ℕ)) (path called status says : List ℕ) (id : ℕ) (texts : StopTexts) (stopped : Result (Unit {0}) FileFault) (answer : Answer)
     → wanted ≡ Some path → called ≡ path → says ≡ status → texts ≡ stop_texts id → Stops before now called says texts stopped → answer ≡ put_answer Cancelled stopped
     → CancelsLast before now wanted status id answer
-cancels_last before now wanted path called status says id texts stopped answer is same said written stops gives =
+cancels_last before now wanted path called status says id texts stopped answer is same also written stops gives =
     let there : Stops before now path status (stop_texts id) stopped =
         subst (λ (n : List ℕ). Stops before now n status (stop_texts id) stopped) same
-        (subst (λ (n : List ℕ). Stops before now called n (stop_texts id) stopped) said
+        (subst (λ (n : List ℕ). Stops before now called n (stop_texts id) stopped) also
         (subst (λ (t : StopTexts). Stops before now called says t stopped) written stops)) in
     subst (λ (o : Option (List ℕ)). CancelsLast before now o status id answer) (sym is) (stop stopped there gives)

@@ -6,5 +6,5 @@ returns-in-Invoke-clause-calls g c = running_invoked _ _ c.args.self.now.device 
     c.invoke.ensures.answer c.invoke.ensures.missed
 
 pub returns-in-Cancel-clause-calls : goal.returns-in-Cancel-clause-calls
-returns-in-Cancel-clause-calls g c = running_cancelled _ _ c.args.self.now.device c.args.self.now.last c.args.what.now c.in-Cancel.id c.cancel.result c.in-Cancel.is c.cancel.ensures.answer
+returns-in-Cancel-clause-calls g c = running_cancelled g.D.DeviceFiles.seen _ _ c.args.self.now.device c.args.self.now.last c.args.what.now c.in-Cancel.id c.cancel.result c.in-Cancel.is c.cancel.ensures.answer
     c.cancel.ensures.missed

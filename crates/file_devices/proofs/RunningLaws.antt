@@ -7,7 +7,7 @@ use Rattle.servient_outside.specs.declared.files.Got.{Got}
 use Rattle.servient_outside.specs.declared.files.Got.TheVariants as got
 use Rattle.servient_outside.proofs.ToldLaws.{continues_same, continues_then}
 use Rattle.thing_handler.specs.declared.handler.CallKind.{CallKind}
-use Rattle.thing_handler.specs.declared.handler.CallKind.TheVariants.{Read, Write, Invoke, Query, Cancel, Poll}
+use Rattle.thing_handler.specs.declared.handler.CallKind.TheVariants.{Invoke, Query, Cancel}
 use Rattle.thing_handler.specs.declared.handler.Answer.{Answer}
 use Rattle.thing_handler.specs.declared.handler.Answer.TheVariants.{Started, Cancelled, Refused, DeviceFault}
 use Rattle.file_devices.specs.declared.entry.RunningDevice.{RunningDevice}
@@ -23,7 +23,7 @@ use Rattle.file_devices.specs.declared.starting.StartTexts.{StartTexts}
 use Rattle.file_devices.specs.Devices.{FindsContent, whole, absent, too_long, failed, PutsText, was_written, was_absent, has_failed, call_text, fault_number, put_answer}
 use Rattle.file_devices.specs.Files.{FilesSeen, MakesCall}
 use Rattle.file_devices.specs.Once.{Tells, ReadsAtMostOnce, was_read, InvokeCalls, looked, status_unwritten, was_handed_in, was_undone, QueryCalls, StopCalls, out_of_memory, id_unwritten, end_unwritten, was_cancelled, LastCalls, CancelCalls, RunningCalls, is_done, is_written}
-use Rattle.file_devices.specs.Running.{hindrance, says_running, ready_by, HandsIn, handed_in, undone, Begins, unmarked, marked, RunInvokes, kept_from, begins, asked_of, Stops, unsaid, said, StopAsked, stop, stop_texts, CancelsLast, RunCancels}
+use Rattle.file_devices.specs.Running.{hindrance, says_running, ready_by, HandsIn, handed_in, undone, Begins, unmarked, marked, RunInvokes, kept_from, begins, asked_of, Stops, unsaid, said, stop, stop_texts, CancelsLast, RunCancels}
 
 -- ---- one call
 

@@ -13,7 +13,7 @@ use Rattle.file_devices.specs.declared.stopping.StopTexts.{StopTexts}
 use Rattle.file_devices.specs.Devices.{FindsContent, PutsText, put_answer}
 use Rattle.file_devices.specs.Files.{FilesSeen}
 use Rattle.file_devices.specs.Once.{Tells, ReadsAtMostOnce, QueryCalls}
-use Rattle.file_devices.specs.Running.{hindrance, ready_by, HandsIn, undone, Begins, unmarked, marked, last_after, RunInvokes, kept_from, begins, StatusAnswers, StatusAsked, status_read, Stops, unsaid, said, StopAsked, stop, stop_texts, CancelsLast}
+use Rattle.file_devices.specs.Running.{hindrance, ready_by, HandsIn, undone, Begins, unmarked, marked, last_after, RunInvokes, kept_from, begins, StatusAnswers, StatusAsked, status_read, Stops, unsaid, said, stop, stop_texts, CancelsLast}
 use Rattle.file_devices.proofs.Looks.{answered}
 
 -- ---- an Invoke
@@ -82,7 +82,7 @@ pub cancels_last : (before now : FilesSeen) (wanted : Option (List ℕ)) (path c
     → CancelsLast before now wanted status id answer
 cancels_last before now wanted path called status says id texts stopped answer is same also written stops gives =
     let there : Stops before now path status (stop_texts id) stopped =
-        subst (λ (n : List ℕ). Stops before now n status (stop_texts id) stopped) same
-        (subst (λ (n : List ℕ). Stops before now called n (stop_texts id) stopped) also
-        (subst (λ (t : StopTexts). Stops before now called says t stopped) written stops)) in
+    subst (λ (n : List ℕ). Stops before now n status (stop_texts id) stopped) same
+    (subst (λ (n : List ℕ). Stops before now called n (stop_texts id) stopped) also
+    (subst (λ (t : StopTexts). Stops before now called says t stopped) written stops)) in
     subst (λ (o : Option (List ℕ)). CancelsLast before now o status id answer) (sym is) (stop stopped there gives)

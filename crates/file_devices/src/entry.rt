@@ -100,8 +100,8 @@ fn plain_entry(
 ) -> Result<Result<DeviceEntry, &'static str>, NoMemory>
     ensures { IfOk result (λ entry. spec.told entry (λ p. p.now)
         ≡ spec.plain_by kind (option_and_then spec.path_in (spec.member_in (json_of item.now) (spec.member_of kind)))
-            (spec.notation_of (spec.member_in (json_of item.now) (codes "as"))) (spec.member_in (json_of item.now) (codes "cancel"))
-            slot (spec.member_in (json_of item.now) (codes "status"))) }
+        (spec.notation_of (spec.member_in (json_of item.now) (codes "as"))) (spec.member_in (json_of item.now) (codes "cancel"))
+        slot (spec.member_in (json_of item.now) (codes "status"))) }
 {
     let Some(notation) = notation_of(item.member("as")) else {
         return Ok(Err("/as"));
@@ -172,7 +172,7 @@ fn running_entry(
 ) -> Result<Result<DeviceEntry, &'static str>, NoMemory>
     ensures { IfOk result (λ entry. spec.told entry (λ p. p.now)
         ≡ spec.running_by action.now notation (spec.optional_path (spec.member_in (json_of item.now) (codes "cancel"))) slot
-            (option_and_then spec.path_in (spec.member_in (json_of item.now) (codes "status")))) }
+        (option_and_then spec.path_in (spec.member_in (json_of item.now) (codes "status")))) }
 {
     let Some(cancel) = optional_path(item.member("cancel")) else {
         return Ok(Err("/cancel"));

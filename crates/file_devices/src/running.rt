@@ -164,7 +164,8 @@ impl<D: DeviceFiles> RunningAction<D> {
             self.device.status.as_str(),
             texts,
         );
-        self.log.finish(prepared, answer_to(stopped, Answer::Cancelled));
+        self.log
+            .finish(prepared, answer_to(stopped, Answer::Cancelled));
         Ok(answer_to(stopped, Answer::Cancelled))
     }
 }

@@ -67,9 +67,7 @@ pub fn running_handler<D: DeviceFiles>(
         cancel: copy_path(alloc, cancel)?,
         notation: device.notation,
     };
-    Ok(SlotHandler::Running(RunningAction::new(
-        alloc, files, device,
-    )))
+    Ok(SlotHandler::Running(RunningAction::new(alloc, files, device)))
 }
 
 /// The handler of a property in memory that holds this value, which wasn't called yet.

@@ -18,6 +18,17 @@ fn put_entry(text: &mut String, alloc: Global, entry: &DeviceEntry) -> Result<()
             "{} {:?} {} {:?}",
             entry.slot, file.kind, file.path, file.notation
         ),
+        EntryDevice::Running(device) => {
+            write!(
+                text,
+                "{} Running {} status {}",
+                entry.slot, device.action, device.status
+            )?;
+            if let Some(path) = &device.cancel {
+                write!(text, " cancel {path}")?;
+            }
+            write!(text, " {:?}", device.notation)
+        }
         EntryDevice::Memory(value) => {
             let value = text_of(alloc, value)?;
             if value.len() > LONGEST_WRITTEN {

@@ -3,8 +3,8 @@
 use crate::readings::Readings;
 use cases_notation::{bytes_of, put_given, put_words};
 use file_devices::{
-    DeviceFilesMemory, FileCall, FileDevice, Notation, SlotHandler, Wrote, file_handler,
-    free_handler, memory_handler,
+    DeviceFilesMemory, FileCall, FileDevice, Notation, RunningDevice, SlotHandler, Wrote,
+    file_handler, free_handler, memory_handler, running_handler,
 };
 use servient_outside::{Calls, Got, Held, HeldFile};
 use std::alloc::{AllocError, Global};
@@ -24,11 +24,13 @@ struct Before {
     contents: Vec<Option<Bytes>>,
 }
 
-/// A device, the number of its next turn, and the number of calls of files that were written already.
+/// A device, the number of its next turn, the id of the last Invoke, and the number of calls of files that were written
+/// already.
 #[derive(Drop)]
 struct Device {
     handler: SlotHandler<Readings>,
     turn: u64,
+    id: u32,
     told: usize,
 }
 
@@ -84,7 +86,30 @@ fn fresh(handler: SlotHandler<Readings>) -> Device {
     Device {
         handler,
         turn: 0,
+        id: 0,
         told: 0,
+    }
+}
+
+/// The notation of a word.
+fn notation_of(word: &str) -> Notation {
+    match word {
+        "text" => Notation::Text,
+        _ => Notation::Json,
+    }
+}
+
+/// The files of a setting.
+fn files_of(alloc: Global, before: Before) -> Readings {
+    let Before {
+        files,
+        fails,
+        contents,
+    } = before;
+    Readings {
+        files: DeviceFilesMemory::new(alloc, files, fails),
+        contents,
+        made: 0,
     }
 }
 
@@ -94,22 +119,30 @@ fn device_of(alloc: Global, before: Before, kind: Kind, rest: &str) -> Result<De
     let device = FileDevice {
         kind,
         path: Text::copy_of(alloc, name)?,
-        notation: match notation {
-            "text" => Notation::Text,
-            _ => Notation::Json,
-        },
+        notation: notation_of(notation),
     };
-    let Before {
-        files,
-        fails,
-        contents,
-    } = before;
-    let files = Readings {
-        files: DeviceFilesMemory::new(alloc, files, fails),
-        contents,
-        made: 0,
-    };
+    let files = files_of(alloc, before);
     Ok(fresh(file_handler(alloc, files, &device)?))
+}
+
+/// The action that runs on of a line: the names of its file and of its status, the notation, and the name of the file that
+/// cancels, where it has one.
+fn running_of(alloc: Global, before: Before, rest: &str) -> Result<Device, AllocError> {
+    let mut words = rest.split(' ');
+    let action = words.next().unwrap_or("");
+    let status = words.next().unwrap_or("");
+    let notation = words.next().unwrap_or("json");
+    let device = RunningDevice {
+        action: Text::copy_of(alloc, action)?,
+        status: Text::copy_of(alloc, status)?,
+        cancel: match words.next() {
+            Some(name) => Some(Text::copy_of(alloc, name)?),
+            None => None,
+        },
+        notation: notation_of(notation),
+    };
+    let files = files_of(alloc, before);
+    Ok(fresh(running_handler(alloc, files, &device)?))
 }
 
 /// The device of a line that names no file.
@@ -136,16 +169,18 @@ fn value_of(alloc: Global, text: &str) -> Result<Tree, AllocError> {
     }
 }
 
-/// The call of a step.
-fn call_of(alloc: Global, step: &str) -> Result<Option<CallKind>, AllocError> {
+/// The call of a step, where the last Invoke had this id.
+fn call_of(alloc: Global, last: u32, step: &str) -> Result<Option<CallKind>, AllocError> {
     let (word, rest) = step.split_once(' ').unwrap_or((step, ""));
+    let id = rest.parse::<u32>().unwrap_or(1);
+    let next = last.saturating_add(1);
     Ok(match word {
         "read" => Some(CallKind::Read),
         "write" => Some(CallKind::Write(value_of(alloc, rest)?)),
-        "invoke" if rest.is_empty() => Some(CallKind::Invoke(1, None)),
-        "invoke" => Some(CallKind::Invoke(1, Some(value_of(alloc, rest)?))),
-        "query" => Some(CallKind::Query(1)),
-        "cancel" => Some(CallKind::Cancel(1)),
+        "invoke" if rest.is_empty() => Some(CallKind::Invoke(next, None)),
+        "invoke" => Some(CallKind::Invoke(next, Some(value_of(alloc, rest)?))),
+        "query" => Some(CallKind::Query(id)),
+        "cancel" => Some(CallKind::Cancel(id)),
         "poll" => Some(CallKind::Poll),
         _ => None,
     })
@@ -167,11 +202,14 @@ fn put_answer(text: &mut String, alloc: Global, answer: &Answer) -> Result<(), A
         Answer::Value(value) => put_value(text, alloc, "value", value),
         Answer::Fired(value) => put_value(text, alloc, "fired", value),
         Answer::Done => text.push_str("done"),
-        Answer::Finished(_) => text.push_str("finished"),
+        Answer::Started => text.push_str("started"),
+        Answer::Running => text.push_str("running"),
+        Answer::Finished(Some(value)) => put_value(text, alloc, "finished", value),
+        Answer::Finished(None) => text.push_str("finished"),
+        Answer::Cancelled => text.push_str("cancelled"),
         Answer::Quiet => text.push_str("quiet"),
         Answer::Refused(number) => write!(text, "refused {number}"),
         Answer::DeviceFault(number) => write!(text, "fault {number}"),
-        Answer::Started | Answer::Running | Answer::Cancelled => text.push_str("other"),
     }
 }
 
@@ -268,9 +306,12 @@ fn put_step(
         device.told = put_calls(text, device)?;
         return Ok(());
     }
-    let Some(what) = call_of(alloc, step)? else {
+    let Some(what) = call_of(alloc, device.id, step)? else {
         return text.push_str("no such step");
     };
+    if let CallKind::Invoke(id, _) = &what {
+        device.id = *id;
+    }
     let answer = device.handler.call(alloc, device.turn, &what)?;
     device.turn = device.turn.saturating_add(1);
     put_answer(text, alloc, &answer)
@@ -287,6 +328,9 @@ fn device_in(alloc: Global, block: &str) -> Result<Option<Device>, AllocError> {
         let (word, rest) = line.split_once(' ').unwrap_or((line, ""));
         if let Some(kind) = kind_of(word) {
             return Ok(Some(device_of(alloc, before, kind, rest)?));
+        }
+        if word == "running" {
+            return Ok(Some(running_of(alloc, before, rest)?));
         }
         if let Some(device) = other_device(alloc, word, rest)? {
             return Ok(Some(device));

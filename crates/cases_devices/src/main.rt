@@ -7,10 +7,12 @@
 //! absent                     the next read finds no file
 //! fails N                    the call of this number fails, reads and writes counted together from 1
 //! property NAME AS           the device, with `json` or `text` for AS; also `action` and `event`
+//! running A STATUS AS CANCEL an action that runs on, with its file and its status, and a file that cancels or none
 //! memory JSON                a property in memory that begins with this value
 //! slot N                     the device of this slot where no entry has it
-//! read, poll, query, cancel  a call, and its answer
-//! write JSON, invoke [JSON]  a call with a value, and its answer
+//! read, poll                 a call, and its answer
+//! write JSON, invoke [JSON]  a call with a value, and its answer; the ids of invocations are 1, 2 ..
+//! query [ID], cancel [ID]    a call of the invocation of this id, or of 1, and its answer
 //! content NAME               what the file holds
 //! calls                      the calls of files since the last such step, but for those that a `reading` gave
 //! ```

@@ -4,4 +4,6 @@ mod Named
 mod CallLists
 mod OnceLaws
 mod SlotCounts
+mod RunningLaws
+mod RunningSteps
 mod SlotLaws

@@ -15,7 +15,7 @@ use Rattle.file_devices.specs.declared.fault.FileFault.TheVariants as fault
 use Rattle.file_devices.specs.declared.notation.Notation.{Notation}
 use Rattle.file_devices.specs.Files.{FilesSeen, Asks, Reads, given_bytes}
 use Rattle.file_devices.specs.Values.{longest, trimmed, Says, ComesTo, value, long_text}
-use Rattle.file_devices.specs.Devices.{Finds, content, absent, too_long, failed, Puts, put_answer, DevicePuts, put, EventPolls, EventLooks, polled}
+use Rattle.file_devices.specs.Devices.{FindsContent, whole, absent, too_long, failed, Finds, by_content, no_content, Puts, put_answer, DevicePuts, put, EventPolls, EventLooks, polled}
 
 pub value_comes : (way : Notation) (bytes text : List ℕ) (o : Option Tree) (v : Tree) → text ≡ trimmed bytes → Says way text o → o ≡ Some v
     → (written : List ℕ) (count : ℕ) → written ≡ json_text v → count ≡ length written → count ≤ longest → ComesTo way bytes (Ok v)
@@ -32,19 +32,31 @@ long_comes way bytes text o v cut says some written count is counted long =
 asked : (before now : FilesSeen) (name : List ℕ) (got : Got) (bytes : List ℕ) → Reads before now name longest got bytes → got ≢ Failed → Asks before now name (given_bytes got bytes) got
 asked before now name got bytes reads went = record { held = reads.held; call = reads.call; faults = reads.same went }
 
-pub absent_found : (before now : FilesSeen) (name : List ℕ) (way : Notation) (bytes : List ℕ) → Reads before now name longest Absent bytes → Finds before now name way (Err fault.Absent)
-absent_found before now name way bytes reads = absent reads.answer (asked before now name Absent bytes reads (λ (e : Absent ≡ Failed). absurd cc)) refl
+pub absent_found : (before now : FilesSeen) (name : List ℕ) (bytes : List ℕ) → Reads before now name longest Absent bytes → FindsContent before now name (Err fault.Absent)
+absent_found before now name bytes reads = absent reads.answer (asked before now name Absent bytes reads (λ (e : Absent ≡ Failed). absurd cc)) refl
 
-pub too_long_found : (before now : FilesSeen) (name : List ℕ) (way : Notation) (bytes : List ℕ) → Reads before now name longest TooLong bytes → Finds before now name way (Err fault.TooLong)
-too_long_found before now name way bytes reads = too_long reads.answer (asked before now name TooLong bytes reads (λ (e : TooLong ≡ Failed). absurd cc)) refl
+pub too_long_found : (before now : FilesSeen) (name : List ℕ) (bytes : List ℕ) → Reads before now name longest TooLong bytes → FindsContent before now name (Err fault.TooLong)
+too_long_found before now name bytes reads = too_long reads.answer (asked before now name TooLong bytes reads (λ (e : TooLong ≡ Failed). absurd cc)) refl
 
-pub failed_found : (before now : FilesSeen) (name : List ℕ) (way : Notation) (bytes : List ℕ) → Reads before now name longest Failed bytes → Finds before now name way (Err fault.Failed)
-failed_found before now name way bytes reads = failed (reads.failed refl) reads.held reads.call refl
+pub failed_found : (before now : FilesSeen) (name : List ℕ) (bytes : List ℕ) → Reads before now name longest Failed bytes → FindsContent before now name (Err fault.Failed)
+failed_found before now name bytes reads = failed (reads.failed refl) reads.held reads.call refl
 
-pub content_found : (before now : FilesSeen) (name : List ℕ) (way : Notation) (bytes : List ℕ) (r : Result (Result Tree FileFault) AllocError)
-    → Reads before now name longest Whole bytes → IfOk r (ComesTo way bytes) → IfOk r (Finds before now name way)
-content_found before now name way bytes (Ok found) reads comes = content bytes reads.answer.0 reads.answer.1 comes (asked before now name Whole bytes reads (λ (e : Whole ≡ Failed). absurd cc))
-content_found before now name way bytes (Err e) reads comes = tt
+pub whole_found : (before now : FilesSeen) (name : List ℕ) (bytes : List ℕ) → Reads before now name longest Whole bytes → FindsContent before now name (Ok bytes)
+whole_found before now name bytes reads = whole bytes reads.answer.0 reads.answer.1 (asked before now name Whole bytes reads (λ (e : Whole ≡ Failed). absurd cc)) refl
+
+-- the value of a content that was found
+pub content_valued : (before now : FilesSeen) (name called : List ℕ) (way : Notation) (content : Result (List ℕ) FileFault) (bytes seen : List ℕ)
+    (r : Result (Result Tree FileFault) AllocError) → called ≡ name → content ≡ Ok bytes → seen ≡ bytes → FindsContent before now called content → IfOk r (ComesTo way seen)
+    → IfOk r (Finds before now name way)
+content_valued before now name called way content bytes seen (Ok found) same is read finds comes =
+    by_content bytes (subst (λ (n : List ℕ). FindsContent before now n (Ok bytes)) same (subst (λ (o : Result (List ℕ) FileFault). FindsContent before now called o) is finds))
+    (subst (λ (b : List ℕ). ComesTo way b found) read comes)
+content_valued before now name called way content bytes seen (Err e) same is read finds comes = tt
+
+pub content_missing : (before now : FilesSeen) (name called : List ℕ) (way : Notation) (content : Result (List ℕ) FileFault) (f : FileFault) → called ≡ name → content ≡ Err f
+    → FindsContent before now called content → Finds before now name way (Err f)
+content_missing before now name called way content f same is finds =
+    no_content f (subst (λ (n : List ℕ). FindsContent before now n (Err f)) same (subst (λ (o : Result (List ℕ) FileFault). FindsContent before now called o) is finds)) refl
 
 pub puts_device : (before now : FilesSeen) (name called : List ℕ) (wanted text : Option (List ℕ)) (meant answer : Answer) (was : Result (Unit {0}) FileFault) → called ≡ name → text ≡ wanted
     → Puts before now called text was → answer ≡ put_answer meant was → DevicePuts before now name wanted meant answer

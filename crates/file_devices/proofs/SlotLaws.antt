@@ -5,7 +5,7 @@ use Rattle.std.specs.declared.alloc.AllocError.{AllocError}
 use Rattle.wot_json.specs.declared.tree.Tree.{Tree}
 use Rattle.thing_handler.specs.declared.handler.Answer.{Answer}
 use Rattle.thing_handler.specs.Shipped.{Device}
-use Rattle.file_devices.specs.Slots.{SlotIs, is_shipped, is_memory}
+use Rattle.file_devices.specs.Slots.{is_shipped, is_memory}
 
 -- a handler in memory answered by its table, and is then what that says
 pub shipped_answers : (r : Result Answer AllocError) (meant : Answer) (is next : Device) → IfOk r (λ a. a ≡ meant) → OnOk r (is ≡ next)

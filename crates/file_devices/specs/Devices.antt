@@ -28,14 +28,19 @@ fault_number fault.NoText = 5
 
 -- ---- looking
 
--- A look at the file of this name finds this. It is one read, and changes no file; a failed one is counted.
-pub data Finds (before now : FilesSeen) (name : List ℕ) (way : Notation) (found : Result Tree FileFault) : Type 0 where
-  content : (bytes : List ℕ) → length bytes ≤ longest → IfSome before.held (λ files. content_of files name ≡ Some bytes)
-      → ComesTo way bytes found → Asks before now name bytes got.Whole → Finds before now name way found
-  absent : IfSome before.held (λ files. content_of files name ≡ None) → Asks before now name [] got.Absent → found ≡ Err fault.Absent → Finds before now name way found
+-- A look at the file of this name finds this content. It is one read, and changes no file; a failed one is counted.
+pub data FindsContent (before now : FilesSeen) (name : List ℕ) (content : Result (List ℕ) FileFault) : Type 0 where
+  whole : (bytes : List ℕ) → length bytes ≤ longest → IfSome before.held (λ files. content_of files name ≡ Some bytes)
+      → Asks before now name bytes got.Whole → content ≡ Ok bytes → FindsContent before now name content
+  absent : IfSome before.held (λ files. content_of files name ≡ None) → Asks before now name [] got.Absent → content ≡ Err fault.Absent → FindsContent before now name content
   too_long : IfSome before.held (λ files. IsSomeAnd (content_of files name) (λ bytes. longest < length bytes))
-      → Asks before now name [] got.TooLong → found ≡ Err fault.TooLong → Finds before now name way found
-  failed : Fails before now → now.held ≡ before.held → MakesCall before now (file_call.Read name [] got.Failed) → found ≡ Err fault.Failed → Finds before now name way found
+      → Asks before now name [] got.TooLong → content ≡ Err fault.TooLong → FindsContent before now name content
+  failed : Fails before now → now.held ≡ before.held → MakesCall before now (file_call.Read name [] got.Failed) → content ≡ Err fault.Failed → FindsContent before now name content
+
+-- A look at it finds this value.
+pub data Finds (before now : FilesSeen) (name : List ℕ) (way : Notation) (found : Result Tree FileFault) : Type 0 where
+  by_content : (bytes : List ℕ) → FindsContent before now name (Ok bytes) → ComesTo way bytes found → Finds before now name way found
+  no_content : (f : FileFault) → FindsContent before now name (Err f) → found ≡ Err f → Finds before now name way found
 
 -- ---- writing
 

@@ -2,8 +2,8 @@
 -- or the value with which it begins in memory. Its format is the product's own; docs/DEVICES.md retells it.
 --
 --     [{"slot": 0, "property": "/sys/class/leds/lamp/brightness"}, {"slot": 48, "event": "door", "as": "text"},
---      {"slot": 3, "value": 21}]
-use Rattle.std.specs.Prelude.{◌≡◌, ℕ, ◌+◌, max, pos, ◌==◌, nat_le, List, [], ◌∷◌, ◌++◌, codes, length, Option, Some, None, option_and_then, Result, Ok, Err, if◌then◌else◌}
+--      {"slot": 40, "action": "target", "status": "status", "cancel": "stop"}, {"slot": 3, "value": 21}]
+use Rattle.std.specs.Prelude.{◌≡◌, ℕ, ◌+◌, max, pos, ◌==◌, nat_le, List, [], ◌∷◌, ◌++◌, codes, length, Option, Some, None, option_map, option_and_then, Result, Ok, Err, if◌then◌else◌}
 use Rattle.std.specs.List.{list_any}
 use Rattle.std.specs.Option.{option_map_or}
 use Rattle.std.specs.Str.{bytes_eq}
@@ -28,10 +28,12 @@ use Rattle.file_devices.specs.Values.{longest}
 
 -- ---- what an entry says
 
--- A device: the kind of its affordance, the path of its file and the notation of the file's content; or the value with
--- which it begins in memory.
+-- A device: the kind of its affordance, the path of its file and the notation of the file's content; an action that runs
+-- on, with the paths of its file, of its status and of the file that cancels it, and the notation; or the value with which
+-- it begins in memory.
 pub data DeviceSaid : Type 0 where
   behind_file : Kind → List ℕ → Notation → DeviceSaid
+  runs_on : List ℕ → List ℕ → Option (List ℕ) → Notation → DeviceSaid
   in_memory : Json → DeviceSaid
 
 -- the slot of its handler, and the device
@@ -42,6 +44,7 @@ pub record EntrySaid : Type 0 where
 -- what the code's entry says
 abbrev pub device_said : EntryDevice → DeviceSaid
 device_said (device.File f) = behind_file f.kind f.path f.notation
+device_said (device.Running r) = runs_on r.action r.status r.cancel r.notation
 device_said (device.Memory v) = in_memory (json_of v)
 
 abbrev pub entry_said : DeviceEntry → EntrySaid
@@ -57,6 +60,11 @@ member_in v name = member_named name (members_under v)
 abbrev pub path_in : Json → Option (List ℕ)
 path_in (string (b ∷ bytes)) = Some (b ∷ bytes)
 path_in v = None
+
+-- That of a member that may be missing: None where it is no path, and Some None where it isn't there.
+abbrev pub optional_path : Option Json → Option (Option (List ℕ))
+optional_path None = Some None
+optional_path (Some v) = option_map Some (path_in v)
 
 -- the notation of a content
 abbrev pub notation_in : Json → Option Notation
@@ -103,28 +111,56 @@ member_of kind.Event = codes "event"
 
 -- ---- entries
 
--- What an entry of a file of this kind says, or the pointer to the first of its members that is wrong, in the order of
--- their names: action, as, event, property, slot.
-abbrev pub file_by : Kind → Option (List ℕ) → Option Notation → Option ℕ → Result EntrySaid (List ℕ)
-file_by kind.Action None way slot = Err (codes "/action")
-file_by kind.Action (Some path) None slot = Err (codes "/as")
-file_by kind.Event path None slot = Err (codes "/as")
-file_by kind.Property path None slot = Err (codes "/as")
-file_by kind.Event None (Some way) slot = Err (codes "/event")
-file_by kind.Property None (Some way) slot = Err (codes "/property")
-file_by k (Some path) (Some way) None = Err (codes "/slot")
-file_by k (Some path) (Some way) (Some slot) = Ok (record { slot = slot; device = behind_file k path way })
+-- What an entry says, or the pointer to the first of its members that is wrong, in the order of their names: action, as,
+-- cancel, event, property, slot, status, value. A `status` stands only beside an action, and a `cancel` beside a `status`.
 
--- The same of an entry of a value in memory: as, slot, value. It has no content, and so no notation.
-abbrev pub memory_by : Option Json → Option ℕ → Option Json → Result EntrySaid (List ℕ)
-memory_by (Some way) slot v = Err (codes "/as")
-memory_by None None v = Err (codes "/slot")
-memory_by None (Some slot) None = Err (codes "/value")
-memory_by None (Some slot) (Some v) = Ok (record { slot = slot; device = in_memory v })
+-- one of an action without a status, with this path and notation
+abbrev pub at_once_by : List ℕ → Notation → Option Json → Option ℕ → Result EntrySaid (List ℕ)
+at_once_by path way (Some cancel) slot = Err (codes "/cancel")
+at_once_by path way None None = Err (codes "/slot")
+at_once_by path way None (Some slot) = Ok (record { slot = slot; device = behind_file kind.Action path way })
+
+-- one of an action with a status
+abbrev pub running_by : List ℕ → Notation → Option (Option (List ℕ)) → Option ℕ → Option (List ℕ) → Result EntrySaid (List ℕ)
+running_by path way None slot status = Err (codes "/cancel")
+running_by path way (Some cancel) None status = Err (codes "/slot")
+running_by path way (Some cancel) (Some slot) None = Err (codes "/status")
+running_by path way (Some cancel) (Some slot) (Some status) = Ok (record { slot = slot; device = runs_on path status cancel way })
+
+abbrev pub action_by : Option (List ℕ) → Option Notation → Option Json → Option ℕ → Option Json → Result EntrySaid (List ℕ)
+action_by None way cancel slot status = Err (codes "/action")
+action_by (Some path) None cancel slot status = Err (codes "/as")
+action_by (Some path) (Some way) cancel slot None = at_once_by path way cancel slot
+action_by (Some path) (Some way) cancel slot (Some status) = running_by path way (optional_path cancel) slot (path_in status)
+
+-- one of a property or an event
+abbrev pub plain_by : Kind → Option (List ℕ) → Option Notation → Option Json → Option ℕ → Option Json → Result EntrySaid (List ℕ)
+plain_by k path None cancel slot status = Err (codes "/as")
+plain_by k path (Some way) (Some cancel) slot status = Err (codes "/cancel")
+plain_by k None (Some way) None slot status = Err (codes "/" ++ member_of k)
+plain_by k (Some path) (Some way) None None status = Err (codes "/slot")
+plain_by k (Some path) (Some way) None (Some slot) (Some status) = Err (codes "/status")
+plain_by k (Some path) (Some way) None (Some slot) None = Ok (record { slot = slot; device = behind_file k path way })
+
+abbrev pub file_by : Kind → Option (List ℕ) → Option Notation → Option Json → Option ℕ → Option Json → Result EntrySaid (List ℕ)
+file_by kind.Property path way cancel slot status = plain_by kind.Property path way cancel slot status
+file_by kind.Action path way cancel slot status = action_by path way cancel slot status
+file_by kind.Event path way cancel slot status = plain_by kind.Event path way cancel slot status
+
+-- one of a value in memory, which has no content, and so no notation
+abbrev pub memory_by : Option Json → Option Json → Option ℕ → Option Json → Option Json → Result EntrySaid (List ℕ)
+memory_by (Some way) cancel slot status v = Err (codes "/as")
+memory_by None (Some cancel) slot status v = Err (codes "/cancel")
+memory_by None None None status v = Err (codes "/slot")
+memory_by None None (Some slot) (Some status) v = Err (codes "/status")
+memory_by None None (Some slot) None None = Err (codes "/value")
+memory_by None None (Some slot) None (Some v) = Ok (record { slot = slot; device = in_memory v })
 
 abbrev pub entry_by : (List ℕ → Option Json) → Option ℕ → Named → Result EntrySaid (List ℕ)
-entry_by member slot (named.File k) = file_by k (option_and_then path_in (member (member_of k))) (notation_of (member (codes "as"))) slot
-entry_by member slot named.Memory = memory_by (member (codes "as")) slot (option_and_then short_value (member (codes "value")))
+entry_by member slot (named.File k) =
+    file_by k (option_and_then path_in (member (member_of k))) (notation_of (member (codes "as"))) (member (codes "cancel")) slot (member (codes "status"))
+entry_by member slot named.Memory =
+    memory_by (member (codes "as")) (member (codes "cancel")) slot (member (codes "status")) (option_and_then short_value (member (codes "value")))
 
 -- What an entry says after those before it. One that doesn't name just one device is wrong itself.
 abbrev pub entry_of : List DeviceEntry → Json → Result EntrySaid (List ℕ)

@@ -4,6 +4,7 @@ pub mod Devices
 pub mod InMemory
 pub mod Seen
 pub mod Entries
+pub mod Running
 pub mod Slots
 pub mod Once
 pub mod SlotAnswers

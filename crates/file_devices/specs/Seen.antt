@@ -6,6 +6,7 @@ use Rattle.file_devices.specs.declared.device.Device.{Device}
 use Rattle.file_devices.specs.declared.property.FileProperty.{FileProperty}
 use Rattle.file_devices.specs.declared.action.FileAction.{FileAction}
 use Rattle.file_devices.specs.declared.event.FileEvent.{FileEvent}
+use Rattle.file_devices.specs.declared.running.RunningAction.{RunningAction}
 use Rattle.file_devices.specs.declared.no_device.NoDevice.{NoDevice}
 
 -- a device as the handler of an affordance of this kind
@@ -20,6 +21,10 @@ action_seen a = device_seen Action a.device
 
 abbrev pub event_seen : {D : Type 0} → FileEvent D → Seen
 event_seen e = device_seen Event e.device
+
+-- an action that runs on
+abbrev pub running_seen : {D : Type 0} → RunningAction D → Seen
+running_seen r = record { kind = Action; turns = r.log.turns.items; misses = r.log.misses }
 
 -- a property without a device
 abbrev pub none_seen : NoDevice → Seen

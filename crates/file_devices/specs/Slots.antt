@@ -10,10 +10,11 @@ use Rattle.file_devices.specs.declared.entry.DeviceEntry.{DeviceEntry}
 use Rattle.file_devices.specs.declared.entry.EntryDevice.{EntryDevice}
 use Rattle.file_devices.specs.declared.entry.EntryDevice.TheVariants as device
 use Rattle.file_devices.specs.declared.entry.FileDevice.{FileDevice}
+use Rattle.file_devices.specs.declared.entry.RunningDevice.{RunningDevice}
 use Rattle.file_devices.specs.declared.slot_handler.SlotHandler.{SlotHandler}
 use Rattle.file_devices.specs.declared.slot_handler.SlotHandler.TheVariants as slot
 use Rattle.file_devices.specs.Entries.{slot_count}
-use Rattle.file_devices.specs.Seen.{property_seen, action_seen, event_seen, none_seen}
+use Rattle.file_devices.specs.Seen.{property_seen, action_seen, running_seen, event_seen, none_seen}
 
 abbrev pub slot_seen : {D : Type 0} → SlotHandler D → Seen
 slot_seen (slot.Shipped s) = shipped_seen s
@@ -21,6 +22,7 @@ slot_seen (slot.NoDevice n) = none_seen n
 slot_seen (slot.Memory c) = cell_seen c
 slot_seen (slot.Property p) = property_seen p
 slot_seen (slot.Action a) = action_seen a
+slot_seen (slot.Running r) = running_seen r
 slot_seen (slot.Event e) = event_seen e
 
 abbrev pub slot_files : {D : Type 0} → SlotHandler D → Option D
@@ -29,15 +31,17 @@ slot_files (slot.NoDevice n) = None
 slot_files (slot.Memory c) = None
 slot_files (slot.Property p) = Some p.device.files
 slot_files (slot.Action a) = Some a.device.files
+slot_files (slot.Running r) = Some r.files
 slot_files (slot.Event e) = Some e.device.files
 
 -- What a handler is: one that the product ships, in this state in memory; none; a property in memory that holds this
--- value; or a device behind a file.
+-- value; a device behind a file; or an action that runs on, and the invocation of it that was begun last.
 pub data SlotIs : Type 0 where
   is_shipped : Device → SlotIs
   is_absent : SlotIs
   is_memory : Tree → SlotIs
   is_file : FileDevice → SlotIs
+  is_running : RunningDevice → Option ℕ → SlotIs
 
 abbrev pub slot_is : {D : Type 0} → SlotHandler D → SlotIs
 slot_is (slot.Shipped s) = is_shipped (device_of s)
@@ -45,17 +49,19 @@ slot_is (slot.NoDevice n) = is_absent
 slot_is (slot.Memory c) = is_memory (value_in c)
 slot_is (slot.Property p) = is_file (record { kind = kind.Property; path = p.device.name; notation = p.device.notation })
 slot_is (slot.Action a) = is_file (record { kind = kind.Action; path = a.device.name; notation = a.device.notation })
+slot_is (slot.Running r) = is_running r.device r.last
 slot_is (slot.Event e) = is_file (record { kind = kind.Event; path = e.device.name; notation = e.device.notation })
 
--- the device behind a file that a handler is, where it is one, which never changes
-abbrev pub file_in : SlotIs → Option FileDevice
-file_in (is_shipped d) = None
-file_in is_absent = None
-file_in (is_memory v) = None
-file_in (is_file f) = Some f
+-- the device behind files that a handler is, where it is one, which never changes
+abbrev pub device_in : SlotIs → Option EntryDevice
+device_in (is_shipped d) = None
+device_in is_absent = None
+device_in (is_memory v) = None
+device_in (is_file f) = Some (device.File f)
+device_in (is_running r last) = Some (device.Running r)
 
-abbrev pub slot_device : {D : Type 0} → SlotHandler D → Option FileDevice
-slot_device h = file_in (slot_is h)
+abbrev pub slot_device : {D : Type 0} → SlotHandler D → Option EntryDevice
+slot_device h = device_in (slot_is h)
 
 -- a handler that is this, and wasn't called yet
 abbrev pub IsFresh : {D : Type 0} → SlotIs → Kind → SlotHandler D → Type 0
@@ -64,6 +70,7 @@ IsFresh what kind h = (slot_is h ≡ what) × (slot_seen h ≡ fresh_handler kin
 -- the handler of the device that an entry says
 abbrev pub IsHandlerOf : {D : Type 0} → EntryDevice → SlotHandler D → Type 0
 IsHandlerOf (device.File f) h = IsFresh (is_file f) f.kind h
+IsHandlerOf (device.Running r) h = IsFresh (is_running r None) kind.Action h
 IsHandlerOf (device.Memory v) h = IsFresh (is_memory v) kind.Property h
 
 -- that of a slot without an entry: below 64 the one that the product ships for the slot, and above none

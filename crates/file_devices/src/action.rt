@@ -13,7 +13,7 @@ use thing_handler::{Answer, CallKind, Handler, Kind, NOT_ITS_KIND, Turn};
 use wot_json::Text;
 
 /// The number of the refusal of a call for an invocation that doesn't run.
-const NO_INVOCATION: u16 = 1;
+pub const NO_INVOCATION: u16 = 1;
 
 /// An action that writes its input into a file, and is finished then.
 #[derive(Drop)]

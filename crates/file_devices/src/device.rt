@@ -3,16 +3,16 @@
 ghost use Rattle.std.specs.Prelude.{◌≡◌, [], IfOk, OnErr};
 ghost use Rattle.wot_terms.specs.declared.kind.Kind.{Kind};
 ghost use Rattle.thing_handler.specs.Handler.{AnswersCall};
-ghost use Rattle.file_devices.specs.Devices.{DevicePuts, Finds, Puts, call_text, done_answer, put_answer};
+ghost use Rattle.file_devices.specs.Devices.{DevicePuts, Finds, Puts, call_text, done_answer};
 ghost use Rattle.file_devices.specs.Once.{ReadsAtMostOnce, Tells, WritesOnce};
 ghost use Rattle.file_devices.specs.Seen.{device_seen};
 
-use crate::files::{DeviceFiles, Wrote};
-use crate::values::{LONGEST, value_in, written_input, written_text};
+use crate::content::{answer_to, content_in, put_content};
+use crate::files::DeviceFiles;
+use crate::values::{value_in, written_input, written_text};
 use crate::{FileFault, Notation};
 use servient_base::NoMemory;
-use servient_outside::Got;
-use std::alloc::{AllocError, Global};
+use std::alloc::Global;
 use thing_handler::{Answer, CallKind, TurnLog};
 use wot_json::{Bytes, Text, Tree};
 
@@ -44,7 +44,6 @@ impl<D: DeviceFiles> Device<D> {
     }
 
     /// The value that the file holds now.
-    #[tactic(auto, using(crate::proofs::Looks::content_found, crate::proofs::Looks::absent_found, crate::proofs::Looks::too_long_found, crate::proofs::Looks::failed_found, crate::proofs::OnceLaws::read_told))]
     pub fn value(&mut self, alloc: Global) -> Result<Result<Tree, FileFault>, NoMemory>
         ensures found { IfOk result (Finds (D.seen self.old.files) (D.seen self.new.files) self.old.name self.old.notation) }
         ensures held { (D.seen self.new.files).held ≡ (D.seen self.old.files).held }
@@ -53,16 +52,9 @@ impl<D: DeviceFiles> Device<D> {
         ensures notation { self.new.notation ≡ self.old.notation }
         ensures log { self.new.log ≡ self.old.log }
     {
-        let mut content = Bytes::new(alloc);
-        match self
-            .files
-            .read(alloc, self.name.as_str(), LONGEST, &mut content)
-        {
-            Got::Whole => value_in(alloc, self.notation, content.as_slice()),
-            Got::Absent => Ok(Err(FileFault::Absent)),
-            Got::TooLong => Ok(Err(FileFault::TooLong)),
-            Got::Failed => Ok(Err(FileFault::Failed)),
-            Got::NoMemory => Err(AllocError),
+        match content_in(&mut self.files, alloc, self.name.as_str())? {
+            Ok(content) => value_in(alloc, self.notation, content.as_slice()),
+            Err(fault) => Ok(Err(fault)),
         }
     }
 
@@ -84,13 +76,13 @@ impl<D: DeviceFiles> Device<D> {
         };
         let prepared = self.log.prepare(alloc, number, what)?;
         let put = put_text(&mut self.files, self.name.as_str(), text);
-        self.log.finish(prepared, answer_to(what, put));
-        Ok(answer_to(what, put))
+        self.log.finish(prepared, answer_to(put, done_by(what)));
+        Ok(answer_to(put, done_by(what)))
     }
 }
 
 /// The text that a call writes.
-fn text_by(alloc: Global, way: Notation, what: &CallKind) -> Result<Option<Bytes>, NoMemory>
+pub fn text_by(alloc: Global, way: Notation, what: &CallKind) -> Result<Option<Bytes>, NoMemory>
     ensures { IfOk result (λ text. text ≡ call_text way what.now) }
 {
     match what {
@@ -107,22 +99,15 @@ fn put_text<D: DeviceFiles>(files: &mut D, name: &str, text: Option<Bytes>) -> R
     let Some(text) = text else {
         return Err(FileFault::NoText);
     };
-    match files.write(name, text) {
-        Wrote::Done => Ok(()),
-        Wrote::Absent => Err(FileFault::Absent),
-        Wrote::Failed => Err(FileFault::Failed),
-    }
+    put_content(files, name, text)
 }
 
-/// The answer to a call that writes, by the result of the write.
-fn answer_to(what: &CallKind, put: Result<(), FileFault>) -> Answer
-    ensures { result ≡ put_answer (done_answer what.now) put }
+/// The answer to a call that writes, where the write was done.
+fn done_by(what: &CallKind) -> Answer
+    ensures { result ≡ done_answer what.now }
 {
-    match put {
-        Ok(()) => match what {
-            CallKind::Invoke(_, _) => Answer::Finished(None),
-            _ => Answer::Done,
-        },
-        Err(fault) => Answer::DeviceFault(fault.number()),
+    match what {
+        CallKind::Invoke(_, _) => Answer::Finished(None),
+        _ => Answer::Done,
     }
 }

@@ -1,8 +1,9 @@
 //! One entry of the list of devices.
 
-ghost use Rattle.std.specs.Prelude.{◌≡◌, ◌==◌, ◌++◌, option_map, option_and_then, codes, IfOk};
+ghost use Rattle.std.specs.Prelude.{◌≡◌, ◌==◌, ◌++◌, Ok, option_map, option_and_then, codes, IfOk};
 ghost use Rattle.std.specs.List.{list_any};
 ghost use Rattle.wot_json.specs.Meaning.{json_of};
+ghost use Rattle.wot_terms.specs.declared.kind.Kind.TheVariants as kinds;
 ghost use Rattle.file_devices.specs.Entries as spec;
 
 use crate::Notation;
@@ -24,6 +25,8 @@ pub struct DeviceEntry {
 pub enum EntryDevice {
     /// Behind a file.
     File(FileDevice),
+    /// An action that runs on, behind files.
+    Running(RunningDevice),
     /// A property in memory, which holds this value at the start.
     Memory(Tree),
 }
@@ -33,6 +36,16 @@ pub enum EntryDevice {
 pub struct FileDevice {
     pub kind: Kind,
     pub path: Text,
+    pub notation: Notation,
+}
+
+/// An action that runs on: the path of the file that takes its input, that of its status, that of the file which takes the
+/// id of an invocation to be cancelled, where there is one, and the notation of inputs and outputs.
+#[derive(Debug, Drop)]
+pub struct RunningDevice {
+    pub action: Text,
+    pub status: Text,
+    pub cancel: Option<Text>,
     pub notation: Notation,
 }
 
@@ -71,19 +84,138 @@ fn file_entry(
     ensures { IfOk result (λ entry. spec.told entry (λ p. p.now)
         ≡ spec.entry_by (spec.member_in (json_of item.now)) slot (Named.File kind)) }
 {
-    let path = path_in(item.member(member_of(kind)));
-    if kind == Kind::Action && path.is_none() {
-        return Ok(Err("/action"));
+    match kind {
+        Kind::Property => plain_entry(alloc, slot, Kind::Property, item),
+        Kind::Action => action_entry(alloc, slot, item),
+        Kind::Event => plain_entry(alloc, slot, Kind::Event, item),
     }
+}
+
+/// The entry of a property or an event behind a file, in this slot.
+fn plain_entry(
+    alloc: Global,
+    slot: Option<u16>,
+    kind: Kind,
+    item: &Tree,
+) -> Result<Result<DeviceEntry, &'static str>, NoMemory>
+    ensures { IfOk result (λ entry. spec.told entry (λ p. p.now)
+        ≡ spec.plain_by kind (option_and_then spec.path_in (spec.member_in (json_of item.now) (spec.member_of kind)))
+        (spec.notation_of (spec.member_in (json_of item.now) (codes "as"))) (spec.member_in (json_of item.now) (codes "cancel"))
+        slot (spec.member_in (json_of item.now) (codes "status"))) }
+{
     let Some(notation) = notation_of(item.member("as")) else {
         return Ok(Err("/as"));
     };
-    let Some(path) = path else {
+    if item.member("cancel").is_some() {
+        return Ok(Err("/cancel"));
+    }
+    let Some(path) = path_in(item.member(member_of(kind))) else {
         return Ok(Err(pointer_to(kind)));
     };
     let Some(slot) = slot else {
         return Ok(Err("/slot"));
     };
+    if item.member("status").is_some() {
+        return Ok(Err("/status"));
+    }
+    file_behind(alloc, slot, kind, path, notation)
+}
+
+/// The entry of an action, in this slot.
+fn action_entry(
+    alloc: Global,
+    slot: Option<u16>,
+    item: &Tree,
+) -> Result<Result<DeviceEntry, &'static str>, NoMemory>
+    ensures { IfOk result (λ entry. spec.told entry (λ p. p.now)
+        ≡ spec.entry_by (spec.member_in (json_of item.now)) slot (Named.File kinds.Action)) }
+{
+    let Some(path) = path_in(item.member("action")) else {
+        return Ok(Err("/action"));
+    };
+    let Some(notation) = notation_of(item.member("as")) else {
+        return Ok(Err("/as"));
+    };
+    match item.member("status") {
+        None => at_once_entry(alloc, slot, path, notation, item),
+        Some(_) => running_entry(alloc, slot, path, notation, item),
+    }
+}
+
+/// The entry of an action without a status, by this path and notation.
+fn at_once_entry(
+    alloc: Global,
+    slot: Option<u16>,
+    path: &str,
+    notation: Notation,
+    item: &Tree,
+) -> Result<Result<DeviceEntry, &'static str>, NoMemory>
+    ensures { IfOk result (λ entry. spec.told entry (λ p. p.now)
+        ≡ spec.at_once_by path.now notation (spec.member_in (json_of item.now) (codes "cancel")) slot) }
+{
+    if item.member("cancel").is_some() {
+        return Ok(Err("/cancel"));
+    }
+    match slot {
+        Some(slot) => file_behind(alloc, slot, Kind::Action, path, notation),
+        None => Ok(Err("/slot")),
+    }
+}
+
+/// The entry of an action with a status, by the path of the action and the notation.
+fn running_entry(
+    alloc: Global,
+    slot: Option<u16>,
+    action: &str,
+    notation: Notation,
+    item: &Tree,
+) -> Result<Result<DeviceEntry, &'static str>, NoMemory>
+    ensures { IfOk result (λ entry. spec.told entry (λ p. p.now)
+        ≡ spec.running_by action.now notation (spec.optional_path (spec.member_in (json_of item.now) (codes "cancel"))) slot
+        (option_and_then spec.path_in (spec.member_in (json_of item.now) (codes "status")))) }
+{
+    let Some(cancel) = optional_path(item.member("cancel")) else {
+        return Ok(Err("/cancel"));
+    };
+    let Some(slot) = slot else {
+        return Ok(Err("/slot"));
+    };
+    let Some(status) = path_in(item.member("status")) else {
+        return Ok(Err("/status"));
+    };
+    let device = RunningDevice {
+        action: Text::copy_of(alloc, action)?,
+        status: Text::copy_of(alloc, status)?,
+        cancel: copy_path(alloc, cancel)?,
+        notation,
+    };
+    Ok(Ok(DeviceEntry {
+        slot,
+        device: EntryDevice::Running(device),
+    }))
+}
+
+/// A copy of a path, where there is one.
+pub fn copy_path(alloc: Global, path: Option<&str>) -> Result<Option<Text>, NoMemory>
+    ensures { IfOk result (λ text. text ≡ option_map (λ path. path.now) path.entry) }
+{
+    match path {
+        Some(path) => Ok(Some(Text::copy_of(alloc, path)?)),
+        None => Ok(None),
+    }
+}
+
+/// The entry of a device of this kind behind the file of this path.
+fn file_behind(
+    alloc: Global,
+    slot: u16,
+    kind: Kind,
+    path: &str,
+    notation: Notation,
+) -> Result<Result<DeviceEntry, &'static str>, NoMemory>
+    ensures { IfOk result (λ entry. spec.told entry (λ p. p.now)
+        ≡ Ok (record { slot = slot; device = spec.behind_file kind path.now notation })) }
+{
     let path = Text::copy_of(alloc, path)?;
     Ok(Ok(DeviceEntry {
         slot,
@@ -107,9 +239,15 @@ fn memory_entry(
     if item.member("as").is_some() {
         return Ok(Err("/as"));
     }
+    if item.member("cancel").is_some() {
+        return Ok(Err("/cancel"));
+    }
     let Some(slot) = slot else {
         return Ok(Err("/slot"));
     };
+    if item.member("status").is_some() {
+        return Ok(Err("/status"));
+    }
     match short_value(alloc, item.member("value"))? {
         Some(value) => Ok(Ok(DeviceEntry {
             slot,
@@ -166,6 +304,20 @@ fn path_in(value: Option<&Tree>) -> Option<&str>
     match value {
         Some(Tree::Text(text)) if !text.as_str().is_empty() => Some(text.as_str()),
         _ => None,
+    }
+}
+
+/// A path that may be missing: the inner `None` where it isn't there, and the outer one where it is no path.
+fn optional_path(value: Option<&Tree>) -> Option<Option<&str>>
+    ensures { option_map (option_map (λ path. path.now)) result
+        ≡ spec.optional_path (option_map (λ v. json_of v.now) value.entry) }
+{
+    match value {
+        None => Some(None),
+        Some(value) => match path_in(Some(value)) {
+            Some(path) => Some(Some(path)),
+            None => None,
+        },
     }
 }
 

@@ -1,11 +1,15 @@
 //! The handler in a slot of a gateway's rack: the device of the slot's entry, or else the handler in memory that the
 //! product ships for the slot, or above those one that refuses each call.
 
-ghost use Rattle.std.specs.Prelude.{◌≡◌, Some, IfOk, option_map};
+ghost use Rattle.std.specs.Prelude.{◌≡◌, None, Some, IfOk, option_map};
 ghost use Rattle.wot_terms.specs.declared.kind.Kind.TheVariants as kind;
-ghost use Rattle.file_devices.specs.Slots.{IsFresh, free_slot_is, free_slot_kind, is_file, is_memory, slot_files};
+ghost use Rattle.file_devices.specs.Slots.{IsFresh, free_slot_is, free_slot_kind, is_file, is_memory, is_running, slot_files};
 
-use crate::{DeviceFiles, FileAction, FileDevice, FileEvent, FileProperty, NoDevice};
+use crate::entry::copy_path;
+use crate::{
+    DeviceFiles, FileAction, FileDevice, FileEvent, FileProperty, NoDevice, RunningAction,
+    RunningDevice,
+};
 use servient_base::NoMemory;
 use std::alloc::Global;
 use thing_handler::{
@@ -24,6 +28,7 @@ pub enum SlotHandler<D: DeviceFiles> {
     Memory(Cell),
     Property(FileProperty<D>),
     Action(FileAction<D>),
+    Running(RunningAction<D>),
     Event(FileEvent<D>),
 }
 
@@ -44,6 +49,25 @@ pub fn file_handler<D: DeviceFiles>(
         Kind::Action => SlotHandler::Action(FileAction::new(alloc, files, path, device.notation)),
         Kind::Event => SlotHandler::Event(FileEvent::new(alloc, files, path, device.notation)),
     })
+}
+
+/// The handler of an action that runs on, which wasn't called yet.
+pub fn running_handler<D: DeviceFiles>(
+    alloc: Global,
+    files: D,
+    device: &RunningDevice,
+) -> Result<SlotHandler<D>, NoMemory>
+    ensures device { IfOk result (IsFresh (is_running device.now None) kind.Action) }
+    ensures files { IfOk result (λ handler. slot_files handler ≡ Some files) }
+{
+    let cancel = device.cancel.as_ref().map(|path| path.as_str());
+    let device = RunningDevice {
+        action: Text::copy_of(alloc, device.action.as_str())?,
+        status: Text::copy_of(alloc, device.status.as_str())?,
+        cancel: copy_path(alloc, cancel)?,
+        notation: device.notation,
+    };
+    Ok(SlotHandler::Running(RunningAction::new(alloc, files, device)))
 }
 
 /// The handler of a property in memory that holds this value, which wasn't called yet.
@@ -76,6 +100,7 @@ impl<D: DeviceFiles> SlotHandler<D> {
             SlotHandler::Shipped(_) | SlotHandler::NoDevice(_) | SlotHandler::Memory(_) => None,
             SlotHandler::Property(handler) => Some(handler.files()),
             SlotHandler::Action(handler) => Some(handler.files()),
+            SlotHandler::Running(handler) => Some(handler.files()),
             SlotHandler::Event(handler) => Some(handler.files()),
         }
     }
@@ -97,6 +122,7 @@ impl<D: DeviceFiles> Handler for SlotHandler<D> {
             SlotHandler::Memory(handler) => handler.kind(),
             SlotHandler::Property(handler) => handler.kind(),
             SlotHandler::Action(handler) => handler.kind(),
+            SlotHandler::Running(handler) => handler.kind(),
             SlotHandler::Event(handler) => handler.kind(),
         }
     }
@@ -114,6 +140,7 @@ impl<D: DeviceFiles> Handler for SlotHandler<D> {
             SlotHandler::Memory(handler) => handler.call(alloc, number, what),
             SlotHandler::Property(handler) => handler.call(alloc, number, what),
             SlotHandler::Action(handler) => handler.call(alloc, number, what),
+            SlotHandler::Running(handler) => handler.call(alloc, number, what),
             SlotHandler::Event(handler) => handler.call(alloc, number, what),
         }
     }
@@ -125,6 +152,7 @@ impl<D: DeviceFiles> Handler for SlotHandler<D> {
             SlotHandler::Memory(handler) => handler.turns(),
             SlotHandler::Property(handler) => handler.turns(),
             SlotHandler::Action(handler) => handler.turns(),
+            SlotHandler::Running(handler) => handler.turns(),
             SlotHandler::Event(handler) => handler.turns(),
         }
     }
@@ -136,6 +164,7 @@ impl<D: DeviceFiles> Handler for SlotHandler<D> {
             SlotHandler::Memory(handler) => handler.forget(),
             SlotHandler::Property(handler) => handler.forget(),
             SlotHandler::Action(handler) => handler.forget(),
+            SlotHandler::Running(handler) => handler.forget(),
             SlotHandler::Event(handler) => handler.forget(),
         }
     }

@@ -33,7 +33,7 @@ pub fn value_in(
 }
 
 /// A content without the blanks and line ends around it.
-fn trimmed(content: &[u8]) -> &[u8]
+pub fn trimmed(content: &[u8]) -> &[u8]
     ensures { result.now ≡ trimmed_of content.now }
 {
     content.trim_ascii()

@@ -6,6 +6,7 @@ ghost use Rattle.file_devices.specs.Slots.{AreHandlers, IsHandlerAt};
 use crate::device_files::DeviceFilesReal;
 use file_devices::{
     DeviceEntries, EntryDevice, SlotHandler, file_handler, free_handler, memory_handler,
+    running_handler,
 };
 use servient_base::NoMemory;
 use std::alloc::Global;
@@ -45,6 +46,13 @@ fn handler_at(
         Some(entry) => match &entry.device {
             EntryDevice::File(device) => {
                 file_handler(
+                    alloc,
+                    DeviceFilesReal::new(rt.clone()?, rt.clone()?),
+                    device,
+                )
+            }
+            EntryDevice::Running(device) => {
+                running_handler(
                     alloc,
                     DeviceFilesReal::new(rt.clone()?, rt.clone()?),
                     device,

@@ -58,10 +58,10 @@ arrivals from bytes now h s t (admitted m slot u met reads) = one_arrival from b
 -- ---- moves
 
 -- At a moment, the server holds what it holds after a history.
-record Holds (k : ℕ) (history : List Arrival) (now : ℕ) (s : State) : Type 0 where
-  did : Did k history s.coap
-  early : s.coap.exchanges.moment ≤ now
-  at : s.moment ≡ now
+pub record Holds (k : ℕ) (history : List Arrival) (now : ℕ) (s : State) : Type 0 where
+  pub did : Did k history s.coap
+  pub early : s.coap.exchanges.moment ≤ now
+  pub at : s.moment ≡ now
 
 -- the same server at the same moment
 stays : (k : ℕ) (history : List Arrival) (now : ℕ) (s t : State) → t.coap ≡ s.coap → t.moment ≡ s.moment → Holds k history now s → Holds k history now t
@@ -221,10 +221,10 @@ ends_holds k history now s t seen both h =
 -- ---- events
 
 -- the history has the requests of what comes more
-record GoesOn (k : ℕ) (history : List Arrival) (now : ℕ) (w : What) (bytes : List ℕ) (t : State) : Type 0 where
-  new : List Arrival
-  requests : AreRequestsOf w bytes now new
-  holds : Holds k (history ++ new) now t
+pub record GoesOn (k : ℕ) (history : List Arrival) (now : ℕ) (w : What) (bytes : List ℕ) (t : State) : Type 0 where
+  pub new : List Arrival
+  pub requests : AreRequestsOf w bytes now new
+  pub holds : Holds k (history ++ new) now t
 
 -- by none
 nothing_new : (k : ℕ) (history : List Arrival) (now : ℕ) (t : State) → Holds k history now t → Holds k (history ++ []) now t
@@ -275,7 +275,7 @@ follows_goes_on k history now site what.Tick bytes s t seen each h = record {
 follows_goes_on k history now site what.Stop bytes s t seen ends h =
     record { new = []; requests = refl; holds = nothing_new k history now t (becomes k history now s t ends.next h) }
 
-step_goes_on : (k : ℕ) (history : List Arrival) (now : ℕ) (site : Site) (e : EventWithBytes) (s t : State) (seen : List Sighting) → Step site e s seen t
+pub step_goes_on : (k : ℕ) (history : List Arrival) (now : ℕ) (site : Site) (e : EventWithBytes) (s t : State) (seen : List Sighting) → Step site e s seen t
     → Holds k history now s → GoesOn k history (max now e.event.moment) e.event.what e.bytes t
 step_goes_on k history now site e s t seen step h =
     let later : ℕ = max now e.event.moment in
@@ -310,9 +310,17 @@ run_goes_on k history now site (e ∷ es) s t seen r h =
       holds = subst (λ (x : List Arrival). Holds k x others.later t) (append_assoc history one.new others.new) others.holds;
     }
 
+-- before the first event
+pub starts_so : (site : Site) (k : ℕ) (epoch : Option ℕ) → Holds k [] 0 (start site k epoch)
+starts_so site k epoch = record {
+  did = (MOST_WATCHERS, linked [] (nothing_came k MOST_WATCHERS) (start site k epoch).coap (text_of_links (segments_of site)) nothing refl);
+  early = omega arith;
+  at = refl;
+}
+
 pub each_run_has_a_history : EachRunHasAHistory
 each_run_has_a_history site k epoch took seen t r =
-    let run = run_goes_on k [] 0 site took (start site k epoch) t seen r (record { did = (MOST_WATCHERS, linked [] (nothing_came k MOST_WATCHERS) (start site k epoch).coap (text_of_links (segments_of site)) nothing refl); early = omega arith; at = refl }) in
+    let run = run_goes_on k [] 0 site took (start site k epoch) t seen r (starts_so site k epoch) in
     record { history = run.new; requests = run.requests; did = run.holds.did; moment = omega (arith, run.holds.early, run.holds.at) }
 
 -- the end of serving changes nothing

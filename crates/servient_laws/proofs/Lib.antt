@@ -45,6 +45,11 @@ mod DirectoryUntimed
 mod DirectorySteps
 mod DirectoryLaws
 mod DialogueSteps
+mod DialogueReplies
+mod DialogueMessages
 mod DialogueMoves
 mod CallsOfActs
+mod CallHistories
+mod TakenMessages
+mod DatagramCalls
 mod CallRuns

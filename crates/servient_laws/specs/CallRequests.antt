@@ -1,12 +1,13 @@
 -- Each call of a device handler in a run belongs to a request that came, or polls an event: it is the next of the calls that
 -- the request's act asks for, which its path and its verb lead to.
-use Rattle.std.specs.Prelude.{◌≡◌, ◌<◌, ◌⊎◌, ◌==◌, ℕ, ◌+◌, Bool, true, false, List, [], ◌∷◌, ◌++◌, map, slice_get, Contains, Option, Some, None, if◌then◌else◌}
+use Rattle.std.specs.Prelude.{◌≡◌, ◌<◌, ◌⊎◌, ◌==◌, ℕ, ◌+◌, Bool, true, false, List, [], ◌∷◌, ◌++◌, map, slice_get, Contains, Option, Some, None, if◌then◌else◌, max}
 use Rattle.coap_msg.specs.declared.block.Block.{Block}
 use Rattle.coap_msg.specs.declared.endpoint.Endpoint.{Endpoint}
 use Rattle.coap_msg.specs.Grammar.{CoapMessage, Spells}
 use Rattle.coap_opts.specs.Reading.{asked as what_is_asked}
 use Rattle.coap_bind.specs.declared.blocks.BlockWish.TheVariants as wanted
-use Rattle.coap_bind.specs.Server.{is_request, wanted_in, with_whole_body}
+use Rattle.coap_exchange.specs.Admission.{Arrival, admitted, verdict, admitted_among}
+use Rattle.coap_bind.specs.Server.{is_request, arrival, wanted_in, with_whole_body}
 use Rattle.wot_json.specs.Meaning.{json_of}
 use Rattle.wot_json.specs.declared.tree.Tree.{Tree}
 use Rattle.thing_ops.specs.Requests.{RequestSeen}
@@ -27,9 +28,10 @@ use Rattle.http_wire.specs.Stream.{PlainHead, message, IsFront}
 use Rattle.http_wire.specs.Reading.{asked}
 use Rattle.servient_outside.specs.declared.net.What.TheVariants as what
 use Rattle.servient_outside.specs.declared.net.EventWithBytes.{EventWithBytes}
-use Rattle.servient_outside.specs.Network.{heard, did, broke}
-use Rattle.servient_trace.specs.Trace.{Sighting, at_network, at_handler}
+use Rattle.servient_outside.specs.Network.{heard, did, broke, events_in}
+use Rattle.servient_trace.specs.Trace.{Sighting, at_network, at_handler, happened_in}
 use Rattle.servient_core.specs.Machine.{Site, State, start, Run}
+use Rattle.servient_core.specs.Runs.{AreRequestsFrom}
 use Rattle.servient_laws.specs.Dialogues.{Talk, Dialogue, unread}
 
 -- ---- the calls of an act
@@ -124,6 +126,18 @@ pub data IsRequestOf (m : CoapMessage) (q : RequestSeen) : Type 0 where
   as_it_is : q ≡ (what_is_asked m).request → IsRequestOf m q
   with_blocks : (b : Block) (body : List ℕ) → wanted_in m ≡ wanted.Joining b → q ≡ (with_whole_body body (what_is_asked m)).request → IsRequestOf m q
 
+-- the moment of the machine after these events: the greatest that one of them had, from this one on
+abbrev pub moment_after : ℕ → List EventWithBytes → ℕ
+moment_after moment [] = moment
+moment_after moment (e ∷ events) = moment_after (max moment e.event.moment) events
+
+-- By all requests that came in what was seen and where n exchanges may live, this one that comes in an event is admitted
+-- (coap_exchange/specs/Admission.antt): so it is no duplicate.
+pub record IsAdmitted (exchanges : ℕ) (seen : List Sighting) (e : EventWithBytes) (from : Endpoint) (m : CoapMessage) : Type 0 where
+  pub history : List Arrival
+  pub requests : AreRequestsFrom 0 (events_in (happened_in seen)) history
+  pub verdict_is : verdict exchanges (admitted_among exchanges history) (arrival from (max (moment_after 0 (events_in (happened_in seen))) e.event.moment) m) ≡ admitted
+
 -- a sighting of a call
 abbrev pub is_call : Sighting → Bool
 is_call (at_handler c) = true
@@ -135,26 +149,26 @@ updated used c n d = if d == c then n else used d
 
 -- What was seen in a run so far: each call polls, or is one of a request that came. `used` is how many bytes of each
 -- connection's stream the messages have whose requests were counted, so that each counts once.
-pub data CallsCome (site : Site) : List Sighting → (ℕ → ℕ) → Type 0 where
-  none_yet : (used : ℕ → ℕ) → CallsCome site [] used
-  no_call : (seen : List Sighting) (x : Sighting) (used : ℕ → ℕ) → CallsCome site seen used → is_call x ≡ false → CallsCome site (seen ++ x ∷ []) used
+pub data CallsCome (site : Site) (exchanges : ℕ) : List Sighting → (ℕ → ℕ) → Type 0 where
+  none_yet : (used : ℕ → ℕ) → CallsCome site exchanges [] used
+  no_call : (seen : List Sighting) (x : Sighting) (used : ℕ → ℕ) → CallsCome site exchanges seen used → is_call x ≡ false → CallsCome site exchanges (seen ++ x ∷ []) used
   -- a connection is opened, or opened anew, and its stream begins
-  begins_anew : (seen : List Sighting) (e : EventWithBytes) (c : ℕ) (used : ℕ → ℕ) → CallsCome site seen used → e.event.what ≡ what.Opened c
-      → CallsCome site (seen ++ at_network (heard e) ∷ []) (updated used c 0)
+  begins_anew : (seen : List Sighting) (e : EventWithBytes) (c : ℕ) (used : ℕ → ℕ) → CallsCome site exchanges seen used → e.event.what ≡ what.Opened c
+      → CallsCome site exchanges (seen ++ at_network (heard e) ∷ []) (updated used c 0)
   -- a tick came last, and an event affordance is polled
-  is_poll : (seen : List Sighting) (e : EventWithBytes) (p : Placed) (calls : List HandlerCall) (used : ℕ → ℕ) → CallsCome site seen used → IsHeardLast e seen → e.event.what ≡ what.Tick
-      → Contains (events_of site) p → ArePollOf p calls → CallsCome site (seen ++ map at_handler calls) used
-  -- a datagram came just now, which is a request
+  is_poll : (seen : List Sighting) (e : EventWithBytes) (p : Placed) (calls : List HandlerCall) (used : ℕ → ℕ) → CallsCome site exchanges seen used → IsHeardLast e seen → e.event.what ≡ what.Tick
+      → Contains (events_of site) p → ArePollOf p calls → CallsCome site exchanges (seen ++ map at_handler calls) used
+  -- a datagram came just now, which is a request that is admitted
   by_datagram : (seen : List Sighting) (e : EventWithBytes) (from : Endpoint) (count : ℕ) (m : CoapMessage) (q : RequestSeen) (calls : List HandlerCall) (used : ℕ → ℕ)
-      → CallsCome site (seen ++ at_network (heard e) ∷ []) used → e.event.what ≡ what.Datagram from count → Spells m e.bytes → is_request m ≡ true → IsRequestOf m q → AreCallsOf site q calls
-      → CallsCome site ((seen ++ at_network (heard e) ∷ []) ++ map at_handler calls) used
+      → CallsCome site exchanges (seen ++ at_network (heard e) ∷ []) used → e.event.what ≡ what.Datagram from count → Spells m e.bytes → is_request m ≡ true → IsAdmitted exchanges seen e from m → IsRequestOf m q
+      → AreCallsOf site q calls → CallsCome site exchanges ((seen ++ at_network (heard e) ∷ []) ++ map at_handler calls) used
   -- the message at the front of what isn't read of a connection's stream is a request, which is taken
   by_message : (seen : List Sighting) (c : ℕ) (x : Talk) (head : PlainHead) (body : List ℕ) (size : ℕ) (expect : Bool) (q : RequestSeen) (calls : List HandlerCall) (used : ℕ → ℕ)
-      → CallsCome site seen used → Dialogue site c seen (Some x) → x.taken ≡ used c → IsFront (unread x) (message head body size expect) → asked head body ≡ Some q → AreCallsOf site q calls
-      → CallsCome site (seen ++ map at_handler calls) (updated used c (x.taken + size))
+      → CallsCome site exchanges seen used → Dialogue site c seen (Some x) → x.taken ≡ used c → IsFront (unread x) (message head body size expect) → asked head body ≡ Some q → AreCallsOf site q calls
+      → CallsCome site exchanges (seen ++ map at_handler calls) (updated used c (x.taken + size))
 
 -- "Calls have their request": so it is of each run.
 abbrev pub CallsHaveRequests : Type 0
 CallsHaveRequests =
     (site : Site) (exchanges : ℕ) (epoch : Option ℕ) (took : List EventWithBytes) (seen : List Sighting) (s : State)
-    → Run site took (start site exchanges epoch) seen s → (used : ℕ → ℕ) × CallsCome site seen used
+    → Run site took (start site exchanges epoch) seen s → (used : ℕ → ℕ) × CallsCome site exchanges seen used

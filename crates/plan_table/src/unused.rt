@@ -59,15 +59,36 @@ fn is_used(rows: &[Row], earlier: &[Entry], entry: &Entry) -> bool
 fn has_affordance(rows: &[Row], entry: &Entry) -> bool
     ensures { result ≡ list_any (table.is_for entry.now) rows.now }
 {
-    rows.iter()
-        .any(|row| entry.0.as_str() == row.segment.as_str() && entry.1.as_str() == row.pointer.as_str())
+    for row in rows {
+        if is_for(entry, row) {
+            return true;
+        }
+    }
+    false
 }
 
 /// One of these entries is for the same affordance.
 fn is_repeated(earlier: &[Entry], entry: &Entry) -> bool
     ensures { result ≡ list_any (table.is_for_the_same entry.now) earlier.now }
 {
-    earlier
-        .iter()
-        .any(|other| entry.0.as_str() == other.0.as_str() && entry.1.as_str() == other.1.as_str())
+    for other in earlier {
+        if is_for_the_same(entry, other) {
+            return true;
+        }
+    }
+    false
+}
+
+/// The entry is for this affordance.
+fn is_for(entry: &Entry, row: &Row) -> bool
+    ensures { result ≡ table.is_for entry.now row.now }
+{
+    entry.0.as_str() == row.segment.as_str() && entry.1.as_str() == row.pointer.as_str()
+}
+
+/// Both entries are for one affordance.
+fn is_for_the_same(entry: &Entry, other: &Entry) -> bool
+    ensures { result ≡ table.is_for_the_same entry.now other.now }
+{
+    entry.0.as_str() == other.0.as_str() && entry.1.as_str() == other.1.as_str()
 }

@@ -1,7 +1,8 @@
 //! The members of a plan that its definition doesn't know.
 
 ghost use Rattle.std.specs.Prelude.{◌≡◌, ◌++◌, [], ◌∷◌, map, IfOk, OnOk, if◌then◌else◌};
-ghost use Rattle.std.specs.List.{filter};
+ghost use Rattle.std.specs.List.{list_any};
+ghost use Rattle.std.specs.Str.{bytes_eq};
 ghost use Rattle.wot_json.specs.Meaning.{json_of, json_members};
 ghost use Rattle.wot_json.specs.Merge.{members_under};
 ghost use Rattle.servient_plan.specs.Plan as spec;
@@ -61,5 +62,17 @@ fn push_unknown(alloc: Global, names: &mut UnknownMembers, name: &Text) -> Resul
 fn is_unknown(name: &str) -> bool
     ensures { result ≡ spec.is_unknown name.now }
 {
-    !MEMBERS.contains(&name)
+    !is_among(name, &MEMBERS)
+}
+
+/// The name is one of these.
+fn is_among(name: &str, names: &[&str]) -> bool
+    ensures { result ≡ list_any (λ other. bytes_eq name.now other) (map (λ s. s.now) names.now) }
+{
+    for other in names {
+        if name == *other {
+            return true;
+        }
+    }
+    false
 }

@@ -1,7 +1,7 @@
 -- The table of a plan. For each affordance of its Things it has the slot that the plan gives it, the handler that a rack has
 -- there, and the places where it is served; and then the entries and the members of the plan that give nothing. A line is
 -- words with a space between them. Names and pointers in it are JSON texts.
-use Rattle.std.specs.Prelude.{◌≡◌, ◌&&◌, ◌||◌, not, nat_eq, ℕ, Bool, true, false, List, [], ◌∷◌, ◌++◌, map, find, slice_get, codes, decimal, Option, Some, None, option_map, option_and_then, unwrap_or, if◌then◌else◌}
+use Rattle.std.specs.Prelude.{◌&&◌, ◌||◌, not, nat_eq, ℕ, Bool, true, false, List, [], ◌∷◌, ◌++◌, map, find, slice_get, codes, decimal, Option, Some, None, option_map, option_and_then, unwrap_or, if◌then◌else◌}
 use Rattle.std.specs.List.{flat_map, list_any, starts_with}
 use Rattle.std.specs.Str.{bytes_eq}
 use Rattle.wot_json.specs.Tree.{Json}

@@ -1,6 +1,6 @@
 //! The lines on entries of `slots` that no affordance has.
 
-ghost use Rattle.std.specs.Prelude.{◌≡◌, ◌++◌, ◌<◌, [], length, IfOk, OnOk, slice_get, if◌then◌else◌, take};
+ghost use Rattle.std.specs.Prelude.{◌≡◌, ◌++◌, [], IfOk, OnOk, if◌then◌else◌};
 ghost use Rattle.std.specs.List.{list_any};
 ghost use Rattle.plan_table.specs.Table as table;
 
@@ -41,11 +41,20 @@ fn put_if_unused(
     if is_used(rows, earlier, entry) {
         return Ok(());
     }
-    text.extend(b"unused slot ")?;
-    put_quoted(alloc, text, entry.0.as_str())?;
-    put_quoted_word(alloc, text, entry.1.as_str())?;
-    put_number_word(text, entry.2)?;
-    text.extend(b"\n")
+    let line = unused_line(alloc, entry)?;
+    text.extend(line.as_slice())
+}
+
+/// The line on an entry that no affordance has.
+fn unused_line(alloc: Global, entry: &Entry) -> Result<Bytes, NoMemory>
+    ensures { IfOk result (λ line. line ≡ table.unused_line entry.now) }
+{
+    let mut line = Bytes::copy_of(alloc, b"unused slot ")?;
+    put_quoted(alloc, &mut line, entry.0.as_str())?;
+    put_quoted_word(alloc, &mut line, entry.1.as_str())?;
+    put_number_word(&mut line, entry.2)?;
+    line.extend(b"\n")?;
+    Ok(line)
 }
 
 /// The entry gives an affordance its slot.

@@ -7,8 +7,8 @@ ghost use Rattle.command_words.specs.Operations.{form_operation};
 ghost use Rattle.command_words.specs.Parts.{Reads, texts};
 ghost use Rattle.command_words.specs.Line.{AreTexts};
 
-use crate::flags::{place_of_flag, words_around};
 use crate::fault::WordsFault;
+use crate::flags::{place_of_flag, words_around};
 use crate::parts::{
     events, file, idle, name, number, number_or, operation, optional, required, scheme, server,
 };

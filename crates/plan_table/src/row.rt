@@ -152,7 +152,5 @@ fn first_href(alloc: Global, forms: &[Form], scheme: &str) -> Result<Option<Text
 fn first_form<'a>(forms: &'a [Form], scheme: &str) -> Option<&'a Form>
     ensures { option_map (λ form. form.now) result ≡ find (λ form. starts_with nat_eq form.href scheme.now) forms.now }
 {
-    forms
-        .iter()
-        .find(|form| form.href.as_str().as_bytes().starts_with(scheme.as_bytes()))
+    forms.iter().find(|form| form.href.as_str().as_bytes().starts_with(scheme.as_bytes()))
 }

@@ -76,6 +76,10 @@ fn put_command(said: &mut String, command: &Command) -> Result<(), AllocError> {
             said.push_str("derive")?;
             put_text(said, plan)
         }
+        Command::Table { plan } => {
+            said.push_str("table")?;
+            put_text(said, plan)
+        }
         Command::Check { description } => {
             said.push_str("check")?;
             put_text(said, description)

@@ -4,6 +4,7 @@ pub mod Stages
 pub mod Reading
 pub mod Checking
 pub mod Deriving
+pub mod Tabling
 pub mod Ending
 pub mod Words
 pub mod Describing

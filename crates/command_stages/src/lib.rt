@@ -20,6 +20,7 @@ mod ending;
 mod fault_lines;
 mod inputs;
 mod reading;
+mod tabling;
 
 pub use checking::check_file;
 pub use derivation::{Planned, derive_plan, derive_things, read_planned};
@@ -28,3 +29,4 @@ pub use ending::{Ended, Ending, SPENT_LINE, end_with};
 pub use fault_lines::misfit;
 pub use inputs::{Inputs, built_in, plan_name, read_inputs};
 pub use reading::{LONGEST_JSON, read_file, read_tree};
+pub use tabling::table_plan;

@@ -2,6 +2,6 @@ mod ClapForms
 mod ClapRules
 mod ClapValues
 mod ClapWalk
-mod EndlessLaws
+mod FlagLaws
 mod RulesMore
 mod WordKinds

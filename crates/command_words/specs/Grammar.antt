@@ -3,7 +3,7 @@
 --
 --     replay SCRIPT [PLAN] [--events N]
 --     serve PLAN [--events N | --endless] [--idle SECONDS]
---     derive PLAN
+--     derive PLAN [--table]
 --     check DESCRIPTION
 --     consume DESCRIPTION OPERATION NAME [--scheme SCHEME] [--input FILE] [--count COUNT]
 --     storm SEED N
@@ -14,10 +14,10 @@ use Rattle.std.specs.Str.{bytes_eq}
 use Rattle.std.specs.Str.Parse.{digits_value}
 use Rattle.servient_base.specs.HostPorts.{point_in}
 use Rattle.command_words.specs.Words.{Form, Values, values_given, value_at}
-use Rattle.command_words.specs.Endless.{endless_place, values_around}
+use Rattle.command_words.specs.Flags.{flag_place, values_around}
 use Rattle.command_words.specs.declared.command.Budget.TheVariants.{Events, Endless}
 use Rattle.command_words.specs.declared.command.Command.{Command}
-use Rattle.command_words.specs.declared.command.Command.TheVariants.{Replay, Serve, Derive, Check, Consume, Storm, Discover}
+use Rattle.command_words.specs.declared.command.Command.TheVariants.{Replay, Serve, Derive, Table, Check, Consume, Storm, Discover}
 use Rattle.command_words.specs.declared.command.Consumption.{Consumption}
 use Rattle.command_words.specs.declared.command.Operation.{Operation}
 use Rattle.command_words.specs.declared.command.Operation.TheVariants as operation
@@ -125,13 +125,24 @@ serve_at words None = option_and_then serve_of (values_given serve_form words)
 serve_at words (Some place) = option_and_then endless_of (values_around endless_form (take place words) (drop (place + 1) words))
 
 abbrev pub serve_meaning : List (List ℕ) → Option Command
-serve_meaning words = serve_at words (endless_place words)
+serve_meaning words = serve_at words (flag_place (codes "--endless") words)
 
 abbrev pub derive_form : Form
 derive_form = record { places = codes "plan" ∷ []; options = [] }
 
 abbrev pub derive_of : Values → Option Command
 derive_of values = option_map Derive (value_at (codes "plan") values)
+
+abbrev pub table_of : Values → Option Command
+table_of values = option_map Table (value_at (codes "plan") values)
+
+-- the command that the words of `derive` mean, by the place of `--table` among them
+abbrev pub derive_at : List (List ℕ) → Option ℕ → Option Command
+derive_at words None = option_and_then derive_of (values_given derive_form words)
+derive_at words (Some place) = option_and_then table_of (values_around derive_form (take place words) (drop (place + 1) words))
+
+abbrev pub derive_meaning : List (List ℕ) → Option Command
+derive_meaning words = derive_at words (flag_place (codes "--table") words)
 
 abbrev pub check_form : Form
 check_form = record { places = codes "description" ∷ []; options = [] }
@@ -182,7 +193,7 @@ abbrev pub meaning_after : List ℕ → List (List ℕ) → Option Command
 meaning_after name words =
     if bytes_eq name (codes "replay") then meaning_by replay_form replay_of words
     else if bytes_eq name (codes "serve") then serve_meaning words
-    else if bytes_eq name (codes "derive") then meaning_by derive_form derive_of words
+    else if bytes_eq name (codes "derive") then derive_meaning words
     else if bytes_eq name (codes "check") then meaning_by check_form check_of words
     else if bytes_eq name (codes "consume") then meaning_by consume_form consume_of words
     else if bytes_eq name (codes "storm") then meaning_by storm_form storm_of words

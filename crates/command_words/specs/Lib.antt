@@ -1,5 +1,5 @@
 pub mod Words
-pub mod Endless
+pub mod Flags
 pub mod Grammar
 pub mod Operations
 pub mod Parts

@@ -1,14 +1,14 @@
 //! The commands, and the words that say them.
 
 ghost use Rattle.std.specs.Prelude.{◌≡◌, IfOk, Some};
-ghost use Rattle.command_words.specs.Grammar.{check_form, check_of, consume_form, consume_of, consumption_of, derive_form, derive_of, discover_form, discover_of, meaning_after, meaning_by, meaning_of, replay_form, replay_of, serve_at, serve_form, serve_meaning, serve_of, storm_form, storm_of};
-ghost use Rattle.command_words.specs.Endless.{endless_place};
+ghost use Rattle.command_words.specs.Grammar.{check_form, check_of, consume_form, consume_of, consumption_of, derive_at, derive_form, derive_meaning, derive_of, discover_form, discover_of, meaning_after, meaning_by, meaning_of, replay_form, replay_of, serve_at, serve_form, serve_meaning, serve_of, storm_form, storm_of};
+ghost use Rattle.command_words.specs.Flags.{IsFlagPlace};
 ghost use Rattle.command_words.specs.Operations.{form_operation};
 ghost use Rattle.command_words.specs.Parts.{Reads, texts};
 ghost use Rattle.command_words.specs.Line.{AreTexts};
 
-use crate::endless::{place_of_endless, words_around};
 use crate::fault::WordsFault;
+use crate::flags::{place_of_flag, words_around};
 use crate::parts::{
     events, file, idle, name, number, number_or, operation, optional, required, scheme, server,
 };
@@ -37,6 +37,10 @@ pub enum Command {
     },
     /// Derives the descriptions of the plan's Things.
     Derive {
+        plan: Text,
+    },
+    /// Shows what the plan gives each affordance of its Things.
+    Table {
         plan: Text,
     },
     /// Checks a description.
@@ -171,7 +175,7 @@ fn serve(alloc: Global, words: &[&str]) -> Result<Command, WordsFault>
     requires { AreTexts (texts words.now) }
     ensures { Reads (serve_meaning (texts words.now)) result }
 {
-    match place_of_endless(words) {
+    match place_of_flag(words, "--endless") {
         Some(place) => serve_endlessly(alloc, words, place),
         None => serve_counted(alloc, words),
     }
@@ -195,7 +199,7 @@ fn serve_counted(alloc: Global, words: &[&str]) -> Result<Command, WordsFault>
 /// `serve` with `--endless` at this place among its words.
 fn serve_endlessly(alloc: Global, words: &[&str], place: usize) -> Result<Command, WordsFault>
     requires text { AreTexts (texts words.now) }
-    requires place { endless_place (texts words.now) ≡ Some place }
+    requires place { IsFlagPlace (texts words.now) place }
     ensures { Reads (serve_at (texts words.now) (Some place)) result }
 {
     let rest = words_around(alloc, words, place)?;
@@ -210,6 +214,28 @@ fn serve_endlessly(alloc: Global, words: &[&str], place: usize) -> Result<Comman
 }
 
 fn derive(alloc: Global, words: &[&str]) -> Result<Command, WordsFault>
+    requires { AreTexts (texts words.now) }
+    ensures { Reads (derive_meaning (texts words.now)) result }
+{
+    match place_of_flag(words, "--table") {
+        Some(place) => table(alloc, words, place),
+        None => descriptions(alloc, words),
+    }
+}
+
+/// `derive` with `--table` at this place among its words.
+fn table(alloc: Global, words: &[&str], place: usize) -> Result<Command, WordsFault>
+    requires text { AreTexts (texts words.now) }
+    requires place { IsFlagPlace (texts words.now) place }
+    ensures { Reads (derive_at (texts words.now) (Some place)) result }
+{
+    let rest = words_around(alloc, words, place)?;
+    let values = Given::read(alloc, &["plan"], &[], rest.as_slice())?;
+    let plan = required(alloc, values.get("plan"))?;
+    Ok(Command::Table { plan })
+}
+
+fn descriptions(alloc: Global, words: &[&str]) -> Result<Command, WordsFault>
     requires { AreTexts (texts words.now) }
     ensures { Reads (meaning_by derive_form derive_of (texts words.now)) result }
 {

@@ -9,12 +9,12 @@
 //! ```
 //!
 //! `clap` reads the words after the name of the command, by one command of its own for each (`values.rt`); numbers and
-//! other values are read here (`parts.rt`).
+//! other values are read here (`parts.rt`), and flags are taken out before (`flags.rt`).
 #![tactic(auto)]
 
 mod command;
-mod endless;
 mod fault;
+mod flags;
 mod parts;
 mod values;
 

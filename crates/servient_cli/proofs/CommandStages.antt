@@ -13,7 +13,7 @@ use Rattle.servient_trace.specs.Trace.{happened_in}
 use Rattle.command_stages.specs.declared.inputs.Inputs.{Inputs}
 use Rattle.command_words.specs.Grammar.{meaning_of}
 use Rattle.command_words.specs.declared.command.Command.{Command}
-use Rattle.command_words.specs.declared.command.Command.TheVariants.{Replay, Serve, Derive, Check, Consume, Storm, Discover}
+use Rattle.command_words.specs.declared.command.Command.TheVariants.{Replay, Serve, Derive, Table, Check, Consume, Storm, Discover}
 use Rattle.command_stages.specs.Stages.{Deed, did_write, sightings_in, HasFailed, Outcome, ends, Around}
 use Rattle.command_stages.specs.declared.ending.Ending.{Ending}
 use Rattle.command_stages.specs.declared.ending.Ended.{Ended}
@@ -30,10 +30,12 @@ use Rattle.command_stages.specs.Inputs.{plan_name, ReadsInputs}
 use Rattle.servient_cli.specs.Replaying.{run_events, RunsOn}
 use Rattle.command_stages.specs.Checking.{Checks, IsFaultlessDescription, Judges}
 use Rattle.command_stages.specs.Deriving.{ReadsPlanned, Derives, derived_of, Prints, DerivesAndPrints}
+use Rattle.command_stages.specs.Tabling.{PrintsTable, Tables}
 use Rattle.servient_outside.specs.Out.{OutSeen, NoWriteFailed}
 use Rattle.servient_cli.specs.Command.{reads_files, IsFaultless, HasFaultlessFiles, IsReported, Ends, NothingFailed, IsAnswered, IsWell, Does, Commands, EndsAndReports, is_asking, is_discovering, is_networked, is_serving, is_no_command, is_command, words_memory}
 use Rattle.command_stages.proofs.FaultlessReading.{GoesOn, EndsWell, by_memory, same_status, HasTrouble, what_trouble, rose_some, then_well, read_well, tree_well, judge_well, derive_well, print_well}
-use Rattle.servient_cli.proofs.FaultlessStages.{planned_well, with_events, inputs_well, run_on_well}
+use Rattle.command_stages.specs.declared.derivation.Planned.{Planned}
+use Rattle.servient_cli.proofs.FaultlessStages.{planned_well, with_events, inputs_well, run_on_well, table_well}
 use Rattle.servient_base.specs.Count.{Rose}
 use Rattle.servient_cli.proofs.FaultlessConsuming.{IsConsumed, MayEnd, consume_well, discover_well}
 use Rattle.servient_cli.proofs.ServedStages.{IsServed, serving_well}
@@ -76,6 +78,13 @@ does_well held files kinds (Derive plan) seen o is_held fine quiet stage = inl (
     any_things : (r : Outcome (List (List ℕ × Json))) → GoesOn (λ ts. ts ≡ fine.things) r → GoesOn (λ ts. Unit {0}) r
     any_things r (inl goes) = inl (goes.0, tt, goes.2)
     any_things r (inr nine) = inr nine
+does_well held files kinds (Table plan) seen o is_held fine quiet stage = inl (
+    then_well EndsWell by_memory (ReadsPlanned held plan) (Tables plan kinds) (λ p. p ≡ fine.planned) seen o quiet
+    (λ s r q st. planned_well held files plan fine.planned s r (is_held refl) fine.by_plan q st)
+    (λ p same s q st. then_well EndsWell by_memory (Derives p) (PrintsTable plan kinds p.plan) (λ ts. ts ≡ fine.things) s o q
+    (λ s2 r q2 st2. derive_well p fine.things s2 r (ap derived_of same ∙ fine.derived_is) st2)
+    (λ ts are s2 q2 st2. table_well plan kinds p.plan ts s2 o
+    (ap (expose_faults kinds p.plan.slots) are ∙ ap (λ (x : Planned). expose_faults kinds x.plan.slots fine.things) same ∙ fine.fits) st2) st) stage)
 does_well held files kinds (Serve plan budget idle) seen o is_held fine quiet stage = served_done plan budget idle o (serving_well held files kinds plan budget idle fine seen o (is_held refl) quiet stage)
 does_well held files kinds (Consume consumption) seen o is_held fine quiet stage = inr (inr (refl, consume_well held files consumption fine seen o (is_held refl) quiet stage))
 does_well held files kinds (Discover host port) seen o is_held fine quiet stage = inr (inr (refl, discover_well host port seen o quiet stage))
@@ -119,6 +128,7 @@ asking_networked (Replay script plan events) is = absurd cc
 asking_networked (Serve plan budget idle) is = absurd cc
 asking_networked (Check description) is = absurd cc
 asking_networked (Derive plan) is = absurd cc
+asking_networked (Table plan) is = absurd cc
 asking_networked (Storm seed events) is = absurd cc
 asking_networked (Consume consumption) is = refl
 asking_networked (Discover host port) is = refl
@@ -131,6 +141,7 @@ discovering_asks (Replay script plan events) is = absurd cc
 discovering_asks (Serve plan budget idle) is = absurd cc
 discovering_asks (Check description) is = absurd cc
 discovering_asks (Derive plan) is = absurd cc
+discovering_asks (Table plan) is = absurd cc
 discovering_asks (Storm seed events) is = absurd cc
 discovering_asks (Consume consumption) is = refl
 discovering_asks (Discover host port) is = refl

@@ -23,6 +23,7 @@ use Rattle.command_stages.specs.Inputs.{built_in, Plans, is_built_in, built_in_m
 use Rattle.servient_cli.specs.Replaying.{run_events, RunsOn, RunsScript, is_whole, is_spent, run_memory}
 use Rattle.servient_cli.specs.Opening.{Exposes, is_exposed, is_misfit, expose_memory, Opens}
 use Rattle.command_stages.specs.Deriving.{ReadsPlan, TakesModels, IsPlanned, is_planned, ReadsPlanned, Derives, derived_of, AreFaultlessModels, IsFaultlessPlan}
+use Rattle.command_stages.specs.Tabling.{PrintsTable, is_tabled, is_tabled_with, table_memory}
 use Rattle.servient_cli.specs.Command.{HoldsFaultless, IsPlannedBy, IsFaultlessReplay}
 use Rattle.command_stages.proofs.FaultlessReading.{GoesOn, EndsWell, by_memory, HasTrouble, then_well, then_goes, read_well, script_well, tree_well, plan_well, models_well, derive_well}
 
@@ -93,6 +94,12 @@ expose_well : (name : List ℕ) (kinds : List Kind) (slots : Slots) (things : Li
 expose_well name kinds slots things seen o none (is_exposed also saw goes) = inl (site_of slots things, tt, goes)
 expose_well name kinds slots things seen o none (is_misfit fault known first end) = absurd (no_first (expose_faults kinds slots things) fault none known first)
 expose_well name kinds slots things seen o none (expose_memory end) = inr end.1
+
+-- a table of Things that fit
+pub table_well : (name : List ℕ) (kinds : List Kind) (plan : Plan) (things : List (List ℕ × Json)) (seen : List Deed) (o : Outcome (Unit {0})) → expose_faults kinds plan.slots things ≡ [] → PrintsTable name kinds plan things seen o → EndsWell o
+table_well name kinds plan things seen o none (is_tabled also end) = inl end.1
+table_well name kinds plan things seen o none (is_tabled_with fault known first end) = absurd (no_first (expose_faults kinds plan.slots things) fault none known first)
+table_well name kinds plan things seen o none (table_memory end) = inr end.1
 
 -- a servient is opened
 pub open_well : (name : List ℕ) (kinds : List Kind) (p : Planned) (things : List (List ℕ × Json)) (seen : List Deed) (o : Outcome Site) → derived_of p ≡ Ok things → expose_faults kinds p.plan.slots things ≡ [] → ¬ (HasTrouble seen) → Opens name kinds p seen o → GoesOn (λ site. Unit {0}) o

@@ -9,7 +9,7 @@ use Rattle.thing_site.specs.Site.{Slots, expose_faults}
 use Rattle.thing_site.specs.Exposing.{kinds_of}
 use Rattle.command_words.specs.Grammar.{meaning_of}
 use Rattle.command_words.specs.declared.command.Command.{Command}
-use Rattle.command_words.specs.declared.command.Command.TheVariants.{Replay, Serve, Derive, Check, Consume, Storm, Discover}
+use Rattle.command_words.specs.declared.command.Command.TheVariants.{Replay, Serve, Derive, Table, Check, Consume, Storm, Discover}
 use Rattle.thing_handler.specs.Turns.{turns_in}
 use Rattle.servient_outside.specs.declared.files.HeldFile.{HeldFile}
 use Rattle.servient_outside.specs.declared.net.What.{What}
@@ -171,6 +171,7 @@ command_not held kinds (Replay script plan events) seen o is stage = absurd cc
 command_not held kinds (Serve plan budget idle) seen o is stage = absurd cc
 command_not held kinds (Check description) seen o is stage = absurd cc
 command_not held kinds (Derive plan) seen o is stage = absurd cc
+command_not held kinds (Table plan) seen o is stage = absurd cc
 command_not held kinds (Consume consumption) seen o is stage = absurd cc
 command_not held kinds (Discover host port) seen o is stage = absurd cc
 command_not held kinds (Storm seed n) seen o is stage = storm_not kinds seed n seen o stage

@@ -2,7 +2,7 @@
 -- with 7, but where others are asked and what they answer can't be printed, so that this status is left to the output.
 use Rattle.std.proofs.Common.{◌≡◌, ◌*◌, subst, refl, true, false, ◌⊎◌, ◌∙◌, ℕ, List, [], ◌∷◌, Option, Some, None, ap, arith, inl, inr, sym}
 use Rattle.command_words.specs.declared.command.Command.{Command}
-use Rattle.command_words.specs.declared.command.Command.TheVariants.{Replay, Serve, Derive, Check, Consume, Storm, Discover}
+use Rattle.command_words.specs.declared.command.Command.TheVariants.{Replay, Serve, Derive, Table, Check, Consume, Storm, Discover}
 use Rattle.wot_json.specs.declared.tree.Tree.{Tree}
 use Rattle.tm_parts.specs.Library.{Models}
 use Rattle.wot_json.specs.Tree.{Json}
@@ -43,6 +43,7 @@ use Rattle.command_words.specs.declared.command.Budget.TheVariants as budgets
 use Rattle.command_stages.specs.Checking.{Checks, Judges, is_valid, is_refused, judge_memory}
 use Rattle.command_stages.specs.Deriving.{IsPlanned, is_planned, ReadsPlanned, Prints, is_printed, print_memory, DerivesAndPrints, ReadsPlan, is_plan, is_no_plan, plan_memory, AddsModel, is_added, is_not_added, add_memory, TakesModel, TakesModels, Derives, is_derived, derive_memory}
 use Rattle.command_stages.specs.Deriving as plans
+use Rattle.command_stages.specs.Tabling.{PrintsTable, is_tabled, is_tabled_with, table_memory, Tables}
 use Rattle.servient_outside.specs.Out.{OutSeen}
 use Rattle.servient_base.specs.Count.{Rose}
 use Rattle.command_words.specs.Grammar.{meaning_of}
@@ -149,6 +150,11 @@ derive_not p seen o (derive_memory e) = by_status o 9 e.1 (omega arith, omega ar
 print_not : (things : List (List ℕ × Json)) (seen : List Deed) (o : Outcome (Unit {0})) → Prints things seen o → EndsPlainly o
 print_not things seen o (is_printed e) = by_status o 0 e.1 (omega arith, omega arith)
 print_not things seen o (print_memory e) = by_status o 9 e.1 (omega arith, omega arith)
+
+table_not : (name : List ℕ) (kinds : List Kind) (plan : Plan) (things : List (List ℕ × Json)) (seen : List Deed) (o : Outcome (Unit {0})) → PrintsTable name kinds plan things seen o → EndsPlainly o
+table_not name kinds plan things seen o (is_tabled a e) = by_status o 0 e.1 (omega arith, omega arith)
+table_not name kinds plan things seen o (is_tabled_with fault a b e) = by_status o 4 e.1 (omega arith, omega arith)
+table_not name kinds plan things seen o (table_memory e) = by_status o 9 e.1 (omega arith, omega arith)
 
 whole_not : (plan : Plan) (models : Models) (seen : List Deed) (o : Outcome Planned) → IsPlanned plan models seen o → EndsPlainly o
 whole_not plan models seen o (is_planned a is) = goes_by o _ is
@@ -274,6 +280,9 @@ ends_plainly held kinds (Check description) seen o other stage =
 ends_plainly held kinds (Derive plan) seen o other stage =
     then_not (ReadsPlanned held plan) DerivesAndPrints seen o (planned_not held plan)
     (λ p s r st. then_not (Derives p) Prints s r (derive_not p) print_not st) stage
+ends_plainly held kinds (Table plan) seen o other stage =
+    then_not (ReadsPlanned held plan) (Tables plan kinds) seen o (planned_not held plan)
+    (λ p s r st. then_not (Derives p) (PrintsTable plan kinds p.plan) s r (derive_not p) (table_not plan kinds p.plan) st) stage
 ends_plainly held kinds (Serve plan budget idle) seen o other stage =
     then_not (ReadsPlanned held plan) (ServesPlanned plan kinds budget idle) seen o (planned_not held plan) (serving_not plan kinds budget idle) stage
 ends_plainly held kinds (Storm seed events) seen o other stage = storm_not kinds seed events seen o stage
@@ -284,6 +293,7 @@ does_not_end_so : (held : Option (List HeldFile)) (kinds : List Kind) (command :
 does_not_end_so held kinds (Replay script plan events) seen o stage = (ends_plainly held kinds (Replay script plan events) seen o refl stage).0
 does_not_end_so held kinds (Check description) seen o stage = (ends_plainly held kinds (Check description) seen o refl stage).0
 does_not_end_so held kinds (Derive plan) seen o stage = (ends_plainly held kinds (Derive plan) seen o refl stage).0
+does_not_end_so held kinds (Table plan) seen o stage = (ends_plainly held kinds (Table plan) seen o refl stage).0
 does_not_end_so held kinds (Serve plan budget idle) seen o stage = (ends_plainly held kinds (Serve plan budget idle) seen o refl stage).0
 does_not_end_so held kinds (Storm seed events) seen o stage = (ends_plainly held kinds (Storm seed events) seen o refl stage).0
 does_not_end_so held kinds (Consume consumption) seen o stage = consume_not held consumption seen o stage
@@ -361,6 +371,7 @@ does_discover held kinds (Replay script plan events) seen o is stage = absurd cc
 does_discover held kinds (Serve plan budget idle) seen o is stage = absurd cc
 does_discover held kinds (Check description) seen o is stage = absurd cc
 does_discover held kinds (Derive plan) seen o is stage = absurd cc
+does_discover held kinds (Table plan) seen o is stage = absurd cc
 does_discover held kinds (Storm seed events) seen o is stage = absurd cc
 does_discover held kinds (Consume consumption) seen o is stage = absurd cc
 does_discover held kinds (Discover host port) seen o is stage = discovered_so _ seen o stage

@@ -5,10 +5,10 @@
 -- the acts and the turns. `serve PLAN` reads a plan and its models, listens at the plan's place, and serves what comes
 -- there, as many events as its budget has. `check TD` reads a Thing Description and says whether it is valid, or its
 -- first fault. `derive PLAN` reads a plan and its models, and prints the descriptions of its Things, or the first
--- fault. `storm SEED N` runs events that are drawn from a seed on the built-in Thing, and counts what came of them.
--- `consume TD OPERATION NAME` reads a description, and does an operation on the Thing that it describes. `discover
--- HOST:PORT` asks a server which Things it has. Each is a row of stages, in a file of its own. A further command adds
--- its file and a row.
+-- fault; with `--table` it prints what the plan gives each affordance in their place. `storm SEED N` runs events that are
+-- drawn from a seed on the built-in Thing, and counts what came of them. `consume TD OPERATION NAME` reads a description,
+-- and does an operation on the Thing that it describes. `discover HOST:PORT` asks a server which Things it has. Each is a
+-- row of stages, in a file of its own. A further command adds its file and a row.
 use Rattle.std.specs.Prelude.{◌≡◌, ◌≢◌, ◌≤◌, ◌⊎◌, ℕ, Bool, true, false, List, [], ◌++◌, Option, Some, None, Ok, length}
 use Rattle.servient_base.specs.Count.{Rose}
 use Rattle.wot_json.specs.Tree.{Json}
@@ -23,7 +23,7 @@ use Rattle.command_words.specs.Grammar.{meaning_of}
 use Rattle.command_words.specs.declared.command.Command.{Command}
 use Rattle.command_words.specs.declared.command.Consumption.{Consumption}
 use Rattle.command_words.specs.Operations.{form_operation}
-use Rattle.command_words.specs.declared.command.Command.TheVariants.{Replay, Serve, Check, Derive, Consume, Storm, Discover}
+use Rattle.command_words.specs.declared.command.Command.TheVariants.{Replay, Serve, Check, Derive, Table, Consume, Storm, Discover}
 use Rattle.servient_outside.specs.declared.files.HeldFile.{HeldFile}
 use Rattle.servient_outside.specs.Told.{Continues}
 use Rattle.servient_outside.specs.Files.{content_of}
@@ -41,6 +41,7 @@ use Rattle.servient_cli.specs.Consuming.{ConsumesThing}
 use Rattle.servient_cli.specs.Discovering.{DiscoversThings}
 use Rattle.command_stages.specs.Checking.{Checks, IsFaultlessDescription}
 use Rattle.command_stages.specs.Deriving.{ReadsPlanned, DerivesAndPrints, IsFaultlessPlan, derived_of}
+use Rattle.command_stages.specs.Tabling.{TablesPlan}
 
 -- ---- the table of commands
 
@@ -51,6 +52,7 @@ Does held kinds (Replay script plan events) = Replays held kinds script plan eve
 Does held kinds (Serve plan budget idle) = ServesPlan held kinds plan budget idle
 Does held kinds (Check description) = AndThen (ReadsFile held longest_json description) (Checks description)
 Does held kinds (Derive plan) = AndThen (ReadsPlanned held plan) DerivesAndPrints
+Does held kinds (Table plan) = TablesPlan held kinds plan
 Does held kinds (Storm seed events) = Storms kinds seed events
 Does held kinds (Consume consumption) = ConsumesThing held consumption
 Does held kinds (Discover host port) = DiscoversThings host port
@@ -189,6 +191,7 @@ HasFaultlessFiles files kinds (Replay script plan events) = IsFaultlessReplay fi
 HasFaultlessFiles files kinds (Serve plan budget idle) = IsFaultlessServing files kinds plan
 HasFaultlessFiles files kinds (Check description) = HoldsFaultless files longest_json description IsFaultlessDescription
 HasFaultlessFiles files kinds (Derive plan) = IsFaultlessDerivation files plan
+HasFaultlessFiles files kinds (Table plan) = IsFaultlessServing files kinds plan
 HasFaultlessFiles files kinds (Storm seed events) = IsFaultlessStorm kinds
 HasFaultlessFiles files kinds (Consume consumption) = IsFaultlessConsumption files consumption
 HasFaultlessFiles files kinds (Discover host port) = Unit {0}

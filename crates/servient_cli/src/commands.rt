@@ -14,6 +14,7 @@ use crate::replay::run_inputs;
 use crate::storming::storm;
 use command_stages::{
     Ended, Ending, LONGEST_JSON, check_file, derive_plan, plan_name, read_file, read_inputs,
+    table_plan,
 };
 use command_words::Command;
 use servient_outside::{Files, Net};
@@ -54,6 +55,7 @@ pub fn run_command<F: Files, N: Net, R: Handlers>(
         }
         Command::Check { description } => check_from(alloc, description.as_str(), files),
         Command::Derive { plan } => derive_plan(alloc, plan.as_str(), files),
+        Command::Table { plan } => table_plan(alloc, plan.as_str(), files, rack),
         Command::Storm { seed, events } => storm(alloc, *seed, *events, rack),
         Command::Consume(_) => unreachable!(),
         Command::Discover { .. } => unreachable!(),

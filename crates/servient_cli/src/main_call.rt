@@ -100,6 +100,7 @@ fn asks_others(command: &Command) -> bool
         Command::Serve { .. } => false,
         Command::Check { .. } => false,
         Command::Derive { .. } => false,
+        Command::Table { .. } => false,
         Command::Storm { .. } => false,
     }
 }
@@ -144,6 +145,7 @@ fn ask_others<F: Files, N: Net, O: Out>(
         Command::Serve { .. } => unreachable!(),
         Command::Check { .. } => unreachable!(),
         Command::Derive { .. } => unreachable!(),
+        Command::Table { .. } => unreachable!(),
         Command::Storm { .. } => unreachable!(),
     }
 }

@@ -14,7 +14,7 @@ use Rattle.thing_site.specs.Site.{Slots}
 use Rattle.thing_site.specs.Exposing.{kinds_of}
 use Rattle.tm_parts.specs.Library.{Models}
 use Rattle.command_words.specs.declared.command.Command.{Command}
-use Rattle.command_words.specs.declared.command.Command.TheVariants.{Replay, Serve, Check, Derive, Storm, Consume, Discover}
+use Rattle.command_words.specs.declared.command.Command.TheVariants.{Replay, Serve, Check, Derive, Table, Storm, Consume, Discover}
 use Rattle.command_words.specs.declared.command.Consumption.{Consumption}
 use Rattle.command_words.specs.Operations.{form_operation}
 use Rattle.servient_outside.specs.declared.files.FileRead.{FileRead}
@@ -57,6 +57,7 @@ use Rattle.command_words.specs.declared.command.Budget.TheVariants as budgets
 use Rattle.command_stages.specs.Checking.{Checks, Judges, is_valid, is_refused, judge_memory}
 use Rattle.command_stages.specs.Deriving.{ReadsPlan, is_plan, is_no_plan, plan_memory, AddsModel, is_added, is_not_added, add_memory, TakesModel, TakesModels, IsPlanned, is_planned, ReadsPlanned, Derives, is_derived, derive_memory, Prints, is_printed, print_memory, DerivesAndPrints}
 use Rattle.command_stages.specs.Deriving as plans
+use Rattle.command_stages.specs.Tabling.{PrintsTable, is_tabled, is_tabled_with, table_memory, Tables}
 use Rattle.servient_cli.specs.Command.{Does, Commands, is_no_command, is_command, words_memory, IsReported}
 use Rattle.servient_laws.specs.Failures.{IsMissing, FailuresAreCounted}
 
@@ -212,6 +213,11 @@ print_tells : (held : Option (List HeldFile)) (things : List (List ℕ × Json))
 print_tells held things seen status (is_printed e) = ended held seen status 0 e.1 (omega arith, omega arith)
 print_tells held things seen status (print_memory e) = ended held seen status 9 e.1 (omega arith, omega arith)
 
+table_tells : (held : Option (List HeldFile)) (name : List ℕ) (kinds : List Kind) (plan : Plan) (things : List (List ℕ × Json)) → Telling held (PrintsTable name kinds plan things)
+table_tells held name kinds plan things seen status (is_tabled a e) = ended held seen status 0 e.1 (omega arith, omega arith)
+table_tells held name kinds plan things seen status (is_tabled_with fault a b e) = ended held seen status 4 e.1 (omega arith, omega arith)
+table_tells held name kinds plan things seen status (table_memory e) = ended held seen status 9 e.1 (omega arith, omega arith)
+
 expose_tells : (held : Option (List HeldFile)) (name : List ℕ) (kinds : List Kind) (slots : Slots) (things : List (List ℕ × Json)) → Telling held (Exposes name kinds slots things)
 expose_tells held name kinds slots things seen status (is_exposed a b is) = went held seen status _ is
 expose_tells held name kinds slots things seen status (is_misfit fault a b e) = ended held seen status 4 e.1 (omega arith, omega arith)
@@ -351,6 +357,8 @@ does_tell held kinds (Check description) =
     (λ content. then_tells held (ReadsTree description content) Judges (tree_tells held description content) (judge_tells held))
 does_tell held kinds (Derive plan) =
     then_tells held (ReadsPlanned held plan) DerivesAndPrints (planned_tells held plan) (λ (p : Planned). then_tells held (Derives p) Prints (derive_tells held p) (print_tells held))
+does_tell held kinds (Table plan) =
+    then_tells held (ReadsPlanned held plan) (Tables plan kinds) (planned_tells held plan) (λ (p : Planned). then_tells held (Derives p) (PrintsTable plan kinds p.plan) (derive_tells held p) (table_tells held plan kinds p.plan))
 does_tell held kinds (Storm seed events) =
     then_tells held TakesBuiltIn (λ (p : Planned). StormsOn kinds seed events (with_few_exchanges p)) (built_in_tells held)
     (λ (p : Planned). then_tells held (Opens (plan_name None) kinds (with_few_exchanges p)) (RunsStorm seed events STORM_EXCHANGES p.plan.epoch) (open_tells held (plan_name None) kinds (with_few_exchanges p)) (storm_tells held seed events STORM_EXCHANGES p.plan.epoch))

@@ -10,7 +10,7 @@ use Rattle.thing_handler.specs.Turns.{GrewBy, CountMisses, RackShows}
 use Rattle.thing_site.specs.Exposing.{kinds_of}
 use Rattle.command_words.specs.Grammar.{meaning_of}
 use Rattle.command_words.specs.declared.command.Command.{Command}
-use Rattle.command_words.specs.declared.command.Command.TheVariants.{Replay, Serve, Check, Derive, Consume, Storm, Discover}
+use Rattle.command_words.specs.declared.command.Command.TheVariants.{Replay, Serve, Check, Derive, Table, Consume, Storm, Discover}
 use Rattle.servient_outside.specs.declared.files.HeldFile.{HeldFile}
 use Rattle.servient_outside.specs.declared.place.Place.{Place}
 use Rattle.servient_outside.specs.Network.{event_in, events_in}
@@ -25,6 +25,7 @@ use Rattle.command_stages.specs.Stages.{Deed, did_write, showing_in, showings_in
 use Rattle.command_stages.specs.Reading.{ReadsFile, is_read, is_absent, is_unreadable, is_long, file_memory, is_not_read, has_been_read, has_failed, ReadsTree, is_tree, has_no_tree, tree_memory, longest_json}
 use Rattle.command_stages.specs.Checking.{Judges, is_valid, is_refused as is_judged, judge_memory, Checks}
 use Rattle.command_stages.specs.Deriving.{ReadsPlan, is_plan, is_no_plan, plan_memory, AddsModel, is_added, is_not_added, add_memory, TakesModel, TakesModels, IsPlanned, is_planned, ReadsPlanned, Derives, is_derived, is_refused, derive_memory, Prints, is_printed, print_memory, DerivesAndPrints}
+use Rattle.command_stages.specs.Tabling.{PrintsTable, is_tabled, is_tabled_with, table_memory, Tables}
 use Rattle.servient_cli.specs.Opening.{Exposes, is_exposed, is_misfit, expose_memory, Opens}
 use Rattle.servient_cli.specs.Listening.{Listens, is_listening, cannot_listen, place_memory, listen_memory, ServesEvents, has_served, Endures, has_endured, ServesBy, ServesPlanned}
 use Rattle.servient_cli.specs.Command.{Does, Commands, is_no_command, is_command, words_memory, IsNoCommand, is_serving, IsReported}
@@ -104,6 +105,11 @@ printed_unseen : (things : _) → Quiet (Prints things)
 printed_unseen things seen o (is_printed end) = ap showings_in end.0
 printed_unseen things seen o (print_memory end) = ap showings_in end.0
 
+tabled_unseen : (name : List ℕ) (kinds : List Kind) (plan : _) (things : _) → Quiet (PrintsTable name kinds plan things)
+tabled_unseen name kinds plan things seen o (is_tabled none end) = ap showings_in end.0
+tabled_unseen name kinds plan things seen o (is_tabled_with fault isnt first end) = ap showings_in end.0
+tabled_unseen name kinds plan things seen o (table_memory end) = ap showings_in end.0
+
 exposed_unseen : (name : List ℕ) (kinds : List Kind) (slots : _) (things : _) → Quiet (Exposes name kinds slots things)
 exposed_unseen name kinds slots things seen o (is_exposed none saw goes) = ap showings_in saw
 exposed_unseen name kinds slots things seen o (is_misfit fault isnt first end) = ap showings_in end.0
@@ -122,6 +128,8 @@ quiet_command held kinds (Check description) is =
     (λ content. then_unseen (ReadsTree description content) Judges (tree_unseen description content) judged_unseen)
 quiet_command held kinds (Derive plan) is =
     then_unseen (ReadsPlanned held plan) DerivesAndPrints (planned_unseen held plan) (λ p. then_unseen (Derives p) Prints (derived_unseen p) printed_unseen)
+quiet_command held kinds (Table plan) is =
+    then_unseen (ReadsPlanned held plan) (Tables plan kinds) (planned_unseen held plan) (λ p. then_unseen (Derives p) (PrintsTable plan kinds p.plan) (derived_unseen p) (tabled_unseen plan kinds p.plan))
 quiet_command held kinds (Replay script plan events) is = absurd cc
 quiet_command held kinds (Serve plan budget idle) is = absurd cc
 quiet_command held kinds (Storm seed events) is = absurd cc
@@ -232,6 +240,7 @@ serving_settles held kinds (Serve plan budget idle) seen status is does = elim (
 ]
 serving_settles held kinds (Check description) seen status is does = absurd cc
 serving_settles held kinds (Derive plan) seen status is does = absurd cc
+serving_settles held kinds (Table plan) seen status is does = absurd cc
 serving_settles held kinds (Replay script plan events) seen status is does = absurd cc
 serving_settles held kinds (Storm seed events) seen status is does = absurd cc
 serving_settles held kinds (Consume consumption) seen status is does = absurd cc

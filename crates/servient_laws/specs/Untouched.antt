@@ -3,7 +3,7 @@ use Rattle.std.specs.Prelude.{◌≡◌, ◌⊎◌, ℕ, Bool, true, false, List
 use Rattle.thing_site.specs.Exposing.{kinds_of}
 use Rattle.command_words.specs.Grammar.{meaning_of}
 use Rattle.command_words.specs.declared.command.Command.{Command}
-use Rattle.command_words.specs.declared.command.Command.TheVariants.{Check, Derive}
+use Rattle.command_words.specs.declared.command.Command.TheVariants.{Check, Derive, Table}
 use Rattle.servient_outside.specs.Network.{events_in}
 use Rattle.servient_outside.specs.Out.{OutSeen}
 use Rattle.servient_trace.specs.Trace.{happened_in}
@@ -33,6 +33,7 @@ FaultsTakeNoEvent =
 abbrev pub calls_nothing : Option Command → Bool
 calls_nothing (Some (Check description)) = true
 calls_nothing (Some (Derive plan)) = true
+calls_nothing (Some (Table plan)) = true
 calls_nothing command = false
 
 -- Where the words are no command, or one of these, each handler is as it was. (That status 2 says that they are no

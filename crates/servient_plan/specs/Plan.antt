@@ -1,8 +1,8 @@
 -- The plan: an object that says which Things a servient exposes, where, and with which handlers. Its format is the
 -- product's own; docs/PROFILE.md retells it. It is a table of rows, each a value or the pointer to its member, and the
 -- first row without a value is the fault: so a wrong entry of a list is a fault of the list, and one pass reads all.
-use Rattle.std.specs.Prelude.{◌≡◌, ◌≤◌, ℕ, pos, ◌==◌, ◌&&◌, ◌||◌, not, nat_le, nat_lt, Bool, true, false, List, [], ◌∷◌, ◌++◌, length, drop, codes, Option, Some, None, is_some, IfSome, unwrap_or, option_map, option_and_then, Result, Ok, Err, if◌then◌else◌}
-use Rattle.std.specs.List.{list_all, starts_with}
+use Rattle.std.specs.Prelude.{◌≡◌, ◌≤◌, ℕ, pos, ◌==◌, ◌&&◌, ◌||◌, not, nat_le, nat_lt, Bool, true, false, List, [], ◌∷◌, ◌++◌, length, drop, map, codes, Option, Some, None, is_some, IfSome, unwrap_or, option_map, option_and_then, Result, Ok, Err, if◌then◌else◌}
+use Rattle.std.specs.List.{filter, list_all, list_any, starts_with}
 use Rattle.std.specs.Str.{bytes_eq}
 use Rattle.servient_base.specs.HostPorts.{point_in}
 use Rattle.wot_json.specs.Tree.{Json, integer, string, array, object, Elements, no_elements, element}
@@ -135,6 +135,20 @@ abbrev pub epoch_in : Option Json → Option (Option ℕ)
 epoch_in None = Some None
 epoch_in (Some v) = option_map (λ epoch. Some epoch) (number_within 0 last_epoch (Some v))
 
+-- ---- the members that a plan has
+
+-- Other members are ignored, and so a name that is misspelt; `unknown_in` gives their names, in the order of the object.
+abbrev pub plan_members : List (List ℕ)
+plan_members =
+    codes "name" ∷ codes "id" ∷ codes "http" ∷ codes "coap" ∷ codes "model" ∷ codes "models" ∷ codes "bindings" ∷ codes "optional"
+    ∷ codes "instance" ∷ codes "slots" ∷ codes "exchanges" ∷ codes "epoch" ∷ []
+
+abbrev pub is_unknown : List ℕ → Bool
+is_unknown name = not (list_any (λ other. bytes_eq name other) plan_members)
+
+abbrev pub unknown_in : List (List ℕ × Json) → List (List ℕ)
+unknown_in ms = filter is_unknown (map (λ m. m.0) ms)
+
 -- ---- the plan
 
 -- one row, and where it is not refused the next
@@ -188,6 +202,7 @@ plan_in ms =
       slots = slots;
       exchanges = exchanges;
       epoch = epoch;
+      unknown = unknown_in ms;
     })))))))
 
 -- The plan that a value is, or the pointer to what it refuses first: the empty one where it is no object.

@@ -5,7 +5,7 @@ ghost use Rattle.wot_json.specs.Meaning.{json_of};
 ghost use Rattle.servient_plan.specs.Plan.{MayBeServed};
 ghost use Rattle.servient_plan.specs.BuiltIn.{built_in_plan, built_in_model as model_of, built_in_slots};
 
-use crate::{ModelFiles, Plan};
+use crate::{ModelFiles, Plan, UnknownMembers};
 use std::alloc::{AllocError, Global};
 use thing_site::Slots;
 use tm_parts::{Bindings, Choices};
@@ -32,6 +32,7 @@ impl Plan {
             slots: slots(alloc)?,
             exchanges: 1024,
             epoch: None,
+            unknown: UnknownMembers::new(alloc),
         })
     }
 

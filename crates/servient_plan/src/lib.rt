@@ -20,6 +20,7 @@
 mod built_in;
 mod plan;
 mod texts;
+mod unknown;
 mod values;
 
-pub use plan::{ModelFiles, Plan, PlanFault};
+pub use plan::{ModelFiles, Plan, PlanFault, UnknownMembers};

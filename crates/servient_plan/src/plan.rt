@@ -8,6 +8,7 @@ ghost use Rattle.servient_plan.specs.Plan as spec;
 ghost use Rattle.wot_forms.specs.Segments.{is_plain_segment};
 
 use crate::texts::{TextRow, base_point};
+use crate::unknown::unknown_in;
 use crate::values::{
     bindings_row, choices_row, epoch_row, exchanges_row, instance_row, models_row, slots_row,
     text_row,
@@ -41,6 +42,8 @@ pub struct Plan {
     pub exchanges: u32,
     /// The moment at which the clock began, in milliseconds after the start of 1970, where the plan says so.
     pub epoch: Option<u64>,
+    /// The names of the members of the object that no plan has.
+    pub unknown: UnknownMembers,
 }
 
 /// The first rows of the table: the names of the root Thing, the bases at which it is served, and the URL of its model.
@@ -84,6 +87,46 @@ impl ModelFiles {
 
     /// The URLs and file names.
     pub fn as_slice(&self) -> &[(Text, Text)]
+        ensures { result.now ≡ self.now }
+    {
+        self.list.as_slice()
+    }
+}
+
+/// The names of members of a plan that its definition doesn't know, in their order. Contracts see the list of them.
+#[derive(Debug, Drop)]
+pub struct UnknownMembers {
+    list: Vec<Text>,
+}
+
+impl Model for UnknownMembers {
+    ghost use Rattle.std.specs.Prelude.{List, ℕ};
+
+    ghost Value = { List (List ℕ) };
+
+    ghost view = { λ m. m.list.items };
+}
+
+impl UnknownMembers {
+    /// No members.
+    pub(crate) fn new(alloc: Global) -> Self
+        ensures { result ≡ [] }
+    {
+        UnknownMembers {
+            list: Vec::new(alloc),
+        }
+    }
+
+    /// Puts a name at the end.
+    pub(crate) fn push(&mut self, name: Text) -> Result<(), NoMemory>
+        ensures { OnOk result (self.new ≡ self.old ++ name ∷ []) }
+    {
+        self.list.push(name)?;
+        Ok(())
+    }
+
+    /// The names.
+    pub fn as_slice(&self) -> &[Text]
         ensures { result.now ≡ self.now }
     {
         self.list.as_slice()
@@ -142,7 +185,7 @@ fn is_object(tree: &Tree) -> bool
 }
 
 impl Plan {
-    /// The plan that a tree is. Members that a plan doesn't have are ignored.
+    /// The plan that a tree is. Of members that a plan doesn't have it keeps the names alone.
     #[tactic(auto, using(crate::proofs::PlanLaws::refused_there, crate::proofs::PlanLaws::goes_on_there))]
     pub fn read(alloc: Global, tree: &Tree) -> Result<Plan, PlanFault>
         ensures reads { Reads result (plan_of (json_of tree.now)) }
@@ -157,6 +200,7 @@ impl Plan {
         let slots = slots_row(alloc, tree)?;
         let exchanges = exchanges_row(alloc, tree)?;
         let epoch = epoch_row(alloc, tree)?;
+        let unknown = unknown_in(alloc, tree)?;
         let frame = Frame {
             segment: names.segment,
             id: names.id,
@@ -172,6 +216,7 @@ impl Plan {
             slots,
             exchanges,
             epoch,
+            unknown,
         })
     }
 

@@ -124,7 +124,7 @@ fn judge<R: Handlers>(rack: &R, earlier: &[Slot], wanted: Wanted) -> Result<Slot
 }
 
 /// A slot of the rack, and the kind of the handler in it.
-fn handler_at<R: Handlers>(rack: &R, slot: Option<usize>) -> Option<(Slot, Kind)>
+pub fn handler_at<R: Handlers>(rack: &R, slot: Option<usize>) -> Option<(Slot, Kind)>
     ensures kind { option_map (λ h. h.1) result ≡ option_and_then (slice_get (kinds_of (R.slots rack.now))) slot }
     ensures slot { IfSome result (λ h. slot ≡ Some h.0) }
 {

@@ -44,8 +44,15 @@ impl Slots {
         Ok(())
     }
 
+    /// The entries in order, each the segment of a Thing, a pointer and a slot.
+    pub fn as_slice(&self) -> &[(Text, Text, usize)]
+        ensures { result.now ≡ self.now }
+    {
+        self.list.as_slice()
+    }
+
     /// The slot of the first entry for this affordance.
-    pub(crate) fn slot_of(&self, segment: &str, pointer: &str) -> Option<usize>
+    pub fn slot_of(&self, segment: &str, pointer: &str) -> Option<usize>
         ensures { result ≡ slot_named segment.now pointer.now self.now }
     {
         slot_in(self.list.as_slice(), segment, pointer)

@@ -56,8 +56,8 @@ fn wanted_one(
     })
 }
 
-/// The pointer to an affordance in its description.
-fn pointer_of(alloc: Global, affordance: &Affordance) -> Result<Text, NoMemory>
+/// The pointer to an affordance in its description, as `/properties/status`.
+pub fn pointer_of(alloc: Global, affordance: &Affordance) -> Result<Text, NoMemory>
     ensures { IfOk result (λ p. p ≡ pointer_to affordance.now) }
 {
     let holder = below(alloc, "", affordance.kind.holder())?;

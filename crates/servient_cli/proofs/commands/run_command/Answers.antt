@@ -2,7 +2,7 @@ use Rattle.std.proofs.Common.{List, ℕ, subst, sym}
 use Rattle.std.specs.Prelude.{Err}
 use Rattle.std.proofs.lemmas.Result.{err_from_is_err_and}
 use Rattle.command_words.specs.declared.command.Command.{Command}
-use Rattle.command_words.specs.declared.command.Command.TheVariants.{Check, Derive, Serve}
+use Rattle.command_words.specs.declared.command.Command.TheVariants.{Check, Derive, Table, Serve}
 use Rattle.thing_site.specs.Exposing.{kinds_of}
 use Rattle.servient_trace.specs.Trace.{outside}
 use Rattle.command_stages.specs.Stages.{around}
@@ -34,6 +34,17 @@ returns-in-Derive-clause-ends g c =
     let now = around (g.F.Files.seen c.derive_plan.new.files) w in
     let named = subst (λ (name : List ℕ). EndsBy (Does held kinds (Derive name)) before now c.derive_plan.result) c.as_str-in-Derive.ensures (c.derive_plan.ensures w) in
     subst (λ (command : Command). EndsBy (Does held kinds command) before now c.derive_plan.result) (sym c.in-Derive.is) named
+
+pub returns-in-Table-clause-ends : goal.returns-in-Table-clause-ends
+returns-in-Table-clause-ends g c =
+    let held = (g.F.Files.seen c.args.files.now).held in
+    let slots = g.R.Handlers.slots c.args.rack.now in
+    let kinds = kinds_of slots in
+    let w = outside (g.N.Net.seen c.args.net.now) slots in
+    let before = around (g.F.Files.seen c.args.files.now) w in
+    let now = around (g.F.Files.seen c.table_plan.new.files) w in
+    let named = subst (λ (name : List ℕ). EndsBy (Does held kinds (Table name)) before now c.table_plan.result) c.as_str-in-Table.ensures (c.table_plan.ensures w) in
+    subst (λ (command : Command). EndsBy (Does held kinds command) before now c.table_plan.result) (sym c.in-Table.is) named
 
 pub returns-in_err-inputs-in-Replay-clause-ends : goal.returns-in_err-inputs-in-Replay-clause-ends
 returns-in_err-inputs-in-Replay-clause-ends g c =

@@ -1,15 +1,19 @@
--- `--endless` among the words of `serve`: the one option that takes no value.
-use Rattle.std.specs.Prelude.{◌+◌, ◌++◌, ℕ, Bool, true, false, List, [], ◌∷◌, Option, Some, None, option_map, option_and_then, if◌then◌else◌, codes}
+-- A flag among the words of a command, as `--endless` of `serve`: an option that takes no value.
+use Rattle.std.specs.Prelude.{◌≡◌, ◌+◌, ◌++◌, ℕ, Bool, true, false, List, [], ◌∷◌, Option, Some, None, option_map, option_and_then, if◌then◌else◌, codes}
 use Rattle.std.specs.Str.{bytes_eq}
 use Rattle.command_words.specs.Words.{WordKind, option, word_kind, Arguments, arguments_after, Form, Values, values_of}
 
--- The place of the first `--endless`, where the options haven't ended before it.
-abbrev pub endless_place : List (List ℕ) → Option ℕ
-endless_place [] = None
-endless_place (word ∷ words) =
-    if bytes_eq word (codes "--endless") then Some 0
+-- The place of the first word that is the flag, where the options haven't ended before it.
+abbrev pub flag_place : List ℕ → List (List ℕ) → Option ℕ
+flag_place flag [] = None
+flag_place flag (word ∷ words) =
+    if bytes_eq word flag then Some 0
     else if bytes_eq word (codes "--") then None
-    else option_map (λ place. place + 1) (endless_place words)
+    else option_map (λ place. place + 1) (flag_place flag words)
+
+-- a flag has this place among the words
+abbrev pub IsFlagPlace : List (List ℕ) → ℕ → Type 0
+IsFlagPlace words place = (flag : List ℕ) × (flag_place flag words ≡ Some place)
 
 -- The arguments of the words before that place and of those after it: each part is arguments by itself, so that no option
 -- before it has its value behind it.

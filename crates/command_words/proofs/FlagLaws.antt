@@ -1,4 +1,4 @@
--- The words around `--endless`: where no option before it awaits its value, the arguments of all other words are those
+-- The words around a flag: where no option before it awaits its value, the arguments of all other words are those
 -- before it and then those behind it; and where one does, there are none.
 use Rattle.std.proofs.Common.{◌≡◌, ◌+◌, ◌∙◌, ◌++◌, ◌<◌, ◌≤◌, ℕ, zero, suc, Bool, true, false, List, [], ◌∷◌, map, length, take, drop, Option, Some, None, is_some, option_map, option_and_then, refl, sym, ap, subst, arith}
 use Rattle.std.specs.Prelude.{codes, nat_eq, nat_lt, not, ◌&&◌, ◌==◌, get_or}
@@ -13,7 +13,7 @@ use Rattle.command_words.specs.Parts.{texts}
 use Rattle.std.proofs.lemmas.List.Elements.{All-append, All-take, All-drop}
 use Rattle.std.specs.Str.{bytes_eq}
 use Rattle.command_words.specs.Words.{WordKind, option, options_end, plain, unknown, word_kind, option_of, is_equals_sign, Argument, word_given, option_given, Arguments, with_argument, arguments_after, from_word, from_value, from_either}
-use Rattle.command_words.specs.Endless.{endless_place, arguments_around, awaits_value, is_open}
+use Rattle.command_words.specs.Flags.{flag_place, IsFlagPlace, arguments_around, awaits_value, is_open}
 use Rattle.command_words.proofs.WordKinds.{IsDashes, LooksLike, as_end, as_option, as_plain, as_unknown, looks_like}
 
 abbrev pub Word : Type 0
@@ -105,14 +105,14 @@ words_open (word ∷ words) (Some name) plainly open_after =
 same_place : (m n : ℕ) → Some m ≡ Some n → m ≡ n
 same_place m n same = cc
 
--- the word at the place of `--endless` is there, and none before it is `--`
-pub place_is_in : (words : List Word) (place : ℕ) → endless_place words ≡ Some place → (place < length words) × HasNoEnd (take place words)
-place_is_in [] place is = cc
-place_is_in (word ∷ words) place is =
-    go (bytes_eq word (codes "--endless")) refl (bytes_eq word (codes "--")) refl (endless_place words) refl (λ q same. place_is_in words q same)
+-- the word at the place of a flag is there, and none before it is `--`
+pub place_is_in : (flag : Word) (words : List Word) (place : ℕ) → flag_place flag words ≡ Some place → (place < length words) × HasNoEnd (take place words)
+place_is_in flag [] place is = cc
+place_is_in flag (word ∷ words) place is =
+    go (bytes_eq word flag) refl (bytes_eq word (codes "--")) refl (flag_place flag words) refl (λ q same. place_is_in flag words q same)
   where
-    go : (t : Bool) → bytes_eq word (codes "--endless") ≡ t → (u : Bool) → bytes_eq word (codes "--") ≡ u → (p : Option ℕ) → endless_place words ≡ p
-        → ((q : ℕ) → endless_place words ≡ Some q → (q < length words) × HasNoEnd (take q words))
+    go : (t : Bool) → bytes_eq word flag ≡ t → (u : Bool) → bytes_eq word (codes "--") ≡ u → (p : Option ℕ) → flag_place flag words ≡ p
+        → ((q : ℕ) → flag_place flag words ≡ Some q → (q < length words) × HasNoEnd (take q words))
         → (place < length (word ∷ words)) × HasNoEnd (take place (word ∷ words))
     go true e u f p same rest =
         let at_once : Some 0 ≡ Some place = rw e at is in
@@ -172,13 +172,13 @@ pub texts_around : (words : List Word) (place : ℕ) → All IsUtf8 words → Al
 texts_around words place all = All-append IsUtf8 (take place words) (drop (place + 1) words) (All-take IsUtf8 place words all) (All-drop IsUtf8 (place + 1) words all)
 
 -- their arguments, where no option awaits its value before the place, and where one does
-pub around_closed : (words : List Word) (place : ℕ) → endless_place words ≡ Some place → is_open false (take place words) ≡ false
+pub around_closed : (words : List Word) (place : ℕ) → IsFlagPlace words place → is_open false (take place words) ≡ false
     → arguments_after (take place words ++ drop (place + 1) words) None ≡ arguments_around (take place words) (drop (place + 1) words)
-around_closed words place is closed = words_joined (take place words) (drop (place + 1) words) None (place_is_in words place is).1 closed
+around_closed words place is closed = words_joined (take place words) (drop (place + 1) words) None (place_is_in is.0 words place is.1).1 closed
 
-pub around_open : (words : List Word) (place : ℕ) → endless_place words ≡ Some place → is_open false (take place words) ≡ true
+pub around_open : (words : List Word) (place : ℕ) → IsFlagPlace words place → is_open false (take place words) ≡ true
     → arguments_around (take place words) (drop (place + 1) words) ≡ None
-around_open words place is opened = rw (words_open (take place words) None (place_is_in words place is).1 opened) refl
+around_open words place is opened = rw (words_open (take place words) None (place_is_in is.0 words place is.1).1 opened) refl
 
 -- the word before the place decides
 pub open_at_front : (words : List Word) (place : ℕ) → place < 1 → is_open false (take place words) ≡ false
@@ -194,11 +194,11 @@ drop_more : (words : List (Bor Word)) (i : ℕ) (d : Bor Word) → i < length wo
 drop_more words i d within = at_drop_more (λ x. x) words i d within
 
 -- the words so far, and one more that is neither
-pub endless_step : (words : List (Bor Word)) (i : ℕ) (d : Bor Word) → i < length words → bytes_eq (get_or words i d).now (codes "--endless") ≡ false → bytes_eq (get_or words i d).now (codes "--") ≡ false
-    → endless_place (texts words) ≡ option_map (λ place. place + i) (endless_place (texts (drop i words)))
-    → endless_place (texts words) ≡ option_map (λ place. place + (i + 1)) (endless_place (texts (drop (i + 1) words)))
-endless_step words i d within isnt ends_not so_far =
-    so_far ∙ ap (λ x. option_map (λ place. place + i) (endless_place (texts x))) (drop_more words i d within) ∙ rw (isnt, ends_not) (later (endless_place (texts (drop (i + 1) words))))
+pub flag_step : (flag : Word) (words : List (Bor Word)) (i : ℕ) (d : Bor Word) → i < length words → bytes_eq (get_or words i d).now flag ≡ false → bytes_eq (get_or words i d).now (codes "--") ≡ false
+    → flag_place flag (texts words) ≡ option_map (λ place. place + i) (flag_place flag (texts (drop i words)))
+    → flag_place flag (texts words) ≡ option_map (λ place. place + (i + 1)) (flag_place flag (texts (drop (i + 1) words)))
+flag_step flag words i d within isnt ends_not so_far =
+    so_far ∙ ap (λ x. option_map (λ place. place + i) (flag_place flag (texts x))) (drop_more words i d within) ∙ rw (isnt, ends_not) (later (flag_place flag (texts (drop (i + 1) words))))
   where
     later : (p : Option ℕ) → option_map (λ place. place + i) (option_map (λ place. place + 1) p) ≡ option_map (λ place. place + (i + 1)) p
     later None = refl

@@ -1,10 +1,10 @@
-//! `--endless` among the words of `serve`. It takes no value, which `clap` is never asked about: the word is found and taken
-//! out here, and `clap` reads the others.
+//! A flag among the words of a command, as `--endless` of `serve`. It takes no value, which `clap` is never asked about: the
+//! word is found and taken out here, and `clap` reads the others.
 
 ghost use Rattle.std.specs.Prelude.{◌≡◌, ◌++◌, ◌+◌, ◌<◌, false, length, take, drop, Some, None, IfOk, MatchResult};
 ghost use Rattle.command_words.specs.Words.{arguments_after, word_kind};
 ghost use Rattle.command_words.specs.declared.fault.WordsFault.TheVariants.{Usage};
-ghost use Rattle.command_words.specs.Endless.{arguments_around, awaits_value as awaits, endless_place, is_open};
+ghost use Rattle.command_words.specs.Flags.{arguments_around, awaits_value as awaits, flag_place, is_open, IsFlagPlace};
 ghost use Rattle.command_words.specs.Line.{AreTexts};
 ghost use Rattle.command_words.specs.Parts.{texts};
 
@@ -12,12 +12,12 @@ use crate::fault::WordsFault;
 use servient_base::NoMemory;
 use std::alloc::Global;
 
-/// The place of the first `--endless`, where the options haven't ended before it.
-pub fn place_of_endless(words: &[&str]) -> Option<usize>
-    ensures { result ≡ endless_place (texts words.now) }
+/// The place of the first word that is this flag, where the options haven't ended before it.
+pub fn place_of_flag(words: &[&str], flag: &str) -> Option<usize>
+    ensures { result ≡ flag_place flag.now (texts words.now) }
 {
     for (index, word) in words.iter().enumerate() {
-        if *word == "--endless" {
+        if *word == flag {
             return Some(index);
         }
         if *word == "--" {
@@ -27,7 +27,7 @@ pub fn place_of_endless(words: &[&str]) -> Option<usize>
     None
 }
 
-/// The other words than that at the place of `--endless`. They are refused where the option before it would have its value
+/// The other words than that at the place of a flag. They are refused where the option before it would have its value
 /// behind it.
 pub fn words_around<'a>(
     alloc: Global,
@@ -35,7 +35,7 @@ pub fn words_around<'a>(
     place: usize,
 ) -> Result<Vec<&'a str>, WordsFault>
     requires text { AreTexts (texts words.now) }
-    requires place { endless_place (texts words.now) ≡ Some place }
+    requires place { IsFlagPlace (texts words.now) place }
     ensures text { IfOk result (λ rest. AreTexts (texts rest.items)) }
     ensures arguments { MatchResult result
         (λ rest. arguments_after (texts rest.items) None ≡ arguments_around (take place (texts words.now)) (drop (place + 1) (texts words.now)))
@@ -67,7 +67,7 @@ fn words_but<'a>(alloc: Global, words: &[&'a str], place: usize) -> Result<Vec<&
 }
 
 /// The word is an option without a value, which the next word gives it.
-#[tactic(auto, using(crate::proofs::EndlessLaws::awaits_as))]
+#[tactic(auto, using(crate::proofs::FlagLaws::awaits_as))]
 fn awaits_value(word: &str) -> bool
     ensures { result ≡ awaits (word_kind word.now) }
 {

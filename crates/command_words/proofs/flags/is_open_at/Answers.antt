@@ -1,8 +1,8 @@
 use Rattle.std.proofs.Common.{◌∙◌, ◌-◌, ◌+◌, ◌≡◌, ℕ, take, ap, arith, sym, false}
-use Rattle.command_words.specs.Endless.{is_open}
+use Rattle.command_words.specs.Flags.{is_open}
 use Rattle.command_words.specs.Parts.{texts}
-use Rattle.command_words.proofs.EndlessLaws.{open_behind}
-use Rattle.command_words.proofs.endless.is_open_at.Goals as goal
+use Rattle.command_words.proofs.FlagLaws.{open_behind}
+use Rattle.command_words.proofs.flags.is_open_at.Goals as goal
 
 pub returns-then-place-gt0 : goal.returns-then-place-gt0
 returns-then-place-gt0 c =

@@ -2,7 +2,7 @@ use Rattle.std.proofs.Common.{◌∙◌, ◌+◌, ◌-◌, ◌≡◌, ◌++◌, 
 use Rattle.std.proofs.lemmas.List.{map-append, take_all, length-drop}
 use Rattle.std.specs.List.{take-map, drop-map}
 use Rattle.command_words.specs.Parts.{texts}
-use Rattle.command_words.proofs.endless.words_but.Goals as goal
+use Rattle.command_words.proofs.flags.words_but.Goals as goal
 
 pub returns : goal.returns
 returns c =

@@ -84,7 +84,7 @@ fn put_exposed(
         return Err(AllocError);
     }
     let mut rack = Rack::new(alloc, list);
-    match Exposed::new(alloc, things, &slots, &rack) {
+    match Exposed::new(alloc, things, &slots, &rack, 0) {
         Ok(exposed) => {
             let mut exposed = exposed;
             put_steps(text, alloc, &mut exposed, &mut rack, block)

@@ -68,7 +68,7 @@ line_at_end ending.Spent = spent_line
 
 -- as many events as can be counted, which is no bound that a run comes to, and as many turns as have numbers
 abbrev pub widest : RunBounds
-widest = record { events = 2 ^ 64 - 1; turns = most_turns }
+widest = record { events = 2 ^ 64 - 1; turns = most_turns 0 }
 
 -- Serving as many events as come: one run of the machine from its start, shown in sections.
 pub data Endures (exchanges : ℕ) (epoch : Option ℕ) (site : Site) (seen : List Deed) (o : Outcome (Unit {0})) : Type 0 where

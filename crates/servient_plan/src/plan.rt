@@ -10,7 +10,7 @@ ghost use Rattle.wot_forms.specs.Segments.{is_plain_segment};
 use crate::texts::{TextRow, base_point};
 use crate::values::{
     bindings_row, choices_row, epoch_row, exchanges_row, instance_row, models_row, slots_row,
-    text_row,
+    text_row, versions_row,
 };
 use servient_outside::Place;
 use std::alloc::{AllocError, Global};
@@ -41,6 +41,8 @@ pub struct Plan {
     pub exchanges: u32,
     /// The moment at which the clock began, in milliseconds after the start of 1970, where the plan says so.
     pub epoch: Option<u64>,
+    /// Versions of properties up to this one are left out, since an earlier run may have sent them as tags.
+    pub versions: u32,
 }
 
 /// The first rows of the table: the names of the root Thing, the bases at which it is served, and the URL of its model.
@@ -157,6 +159,7 @@ impl Plan {
         let slots = slots_row(alloc, tree)?;
         let exchanges = exchanges_row(alloc, tree)?;
         let epoch = epoch_row(alloc, tree)?;
+        let versions = versions_row(alloc, tree)?;
         let frame = Frame {
             segment: names.segment,
             id: names.id,
@@ -172,6 +175,7 @@ impl Plan {
             slots,
             exchanges,
             epoch,
+            versions,
         })
     }
 

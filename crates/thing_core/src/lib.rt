@@ -6,7 +6,7 @@
 //! ```text
 //! let mut slots = Slots::new(alloc);
 //! slots.push(segment, pointer, 0)?; // `lamp` and `/properties/status`
-//! let mut lamp = Exposed::new(alloc, things, &slots, &rack)?;
+//! let mut lamp = Exposed::new(alloc, things, &slots, &rack, 0)?;
 //! let outcome = lamp.perform(&mut rack, &request); // GET /lamp/properties/status
 //! assert!(matches!(outcome, Outcome::Content { .. }));
 //! assert_eq!(lamp.accounts().calls, 1);

@@ -15,5 +15,6 @@ pub mod PerformLaws
 pub mod Handed
 pub mod CompleteLaws
 pub mod DeterminedLaws
+mod TagLaws
 mod TickLaws
 mod RoundLaws

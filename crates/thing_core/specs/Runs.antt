@@ -149,7 +149,7 @@ pub record SendsTag (site : Site) (slot tag : ℕ) (seen : List HandlerCall) : T
   pub t : State
   pub asked : IsAsked site request (act.Reads p) done s t
   pub named : p.slot ≡ slot
-  pub there : IsSome (version_in slot s.versions)
+  pub there : IsSome (version_in p.slot s.versions)
   pub sent : tag_sent done.outcome ≡ Some tag
   pub after : List Deed
   pub further : List HandlerCall

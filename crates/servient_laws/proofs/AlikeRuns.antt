@@ -220,7 +220,7 @@ follows_agree answers site (what.Opened c) bytes s t u v a b alike p q on_a on_b
 follows_agree answers site (what.Bytes c size) bytes s t u v a b alike p q on_a on_b = piece_agrees answers site c bytes s t u v a b alike p q on_a on_b
 follows_agree answers site (what.Ended c) bytes s t u v a b alike p q on_a on_b = http_agree answers (λ now. Ended c) (λ now h k l x y. x ∙ sym y) s t u v a b alike p q on_a on_b
 follows_agree answers site (what.Datagram from size) bytes s t u v a b alike p q on_a on_b = datagram_agrees answers site from bytes s t u v a b alike p q on_a on_b
-follows_agree answers site what.Tick bytes s t u v a b alike p q on_a on_b = each_agree answers PollsAndDelivers (events_of site) (poll_agrees answers) s t u v a b alike p q on_a on_b
+follows_agree answers site what.Tick bytes s t u v a b alike p q on_a on_b = each_agree answers PollsAndDelivers (events_of site.things) (poll_agrees answers) s t u v a b alike p q on_a on_b
 follows_agree answers site what.Stop bytes s t u v a b alike p q on_a on_b = becomes_agree s t u v [] [] a b alike refl p q
 
 step_agrees : (answers : ℕ → Answer) (site : Site) (e : EventWithBytes) → AgreeAs answers (Step site e) (Step site e)

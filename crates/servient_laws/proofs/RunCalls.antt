@@ -8,7 +8,7 @@ use Rattle.coap_msg.specs.declared.endpoint.Endpoint.{Endpoint}
 use Rattle.wot_terms.specs.declared.kind.Kind.TheVariants as kind
 use Rattle.thing_handler.specs.Turns.{HandlerCall}
 use Rattle.thing_ops.specs.Requests.{RequestSeen}
-use Rattle.thing_site.specs.Site.{Placed, Site, events_of, those_of}
+use Rattle.thing_site.specs.Site.{Placed, ExposedThing, Site, events_of, those_of}
 use Rattle.thing_core.specs.Thing.{Done}
 use Rattle.thing_core.proofs.SlotLaws.{ThingsHave}
 use Rattle.coap_bind.specs.Server.{Heard, ignored, answered_at_once, asked}

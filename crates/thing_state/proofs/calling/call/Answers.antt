@@ -19,14 +19,14 @@ seen m turns = record {
   room = deque_capacity m.pending - deque_len m.pending;
 }
 
-pub returns-then-number-eq-most_turns : goal.returns-then-number-eq-most_turns
-returns-then-number-eq-most_turns g c =
+pub returns-then-number-most_turns : goal.returns-then-number-most_turns
+returns-then-number-most_turns g c =
     calls_for (λ called. ComesAs called (Err outcome.CallsUsed)) c.args.slot c.args.what.now no_number c.args.machine.now c.args.machine.now (g.R.Handlers.slots c.args.rack.now) (g.R.Handlers.slots c.args.rack.now) refl tt
-    (call_full c.args.machine.now (g.R.Handlers.slots c.args.rack.now) c.args.slot c.args.what.now (sym (ap (λ (k : Course). k.state.turns) c.machine.view_is) ∙ c.if-number-eq-most_turns.true ∙ c.most_turns.ensures))
+    (call_full c.args.machine.now (g.R.Handlers.slots c.args.rack.now) c.args.slot c.args.what.now (sym (ap (λ (k : Course). k.state.turns) c.machine.view_is) ∙ c.if-number-most_turns.true ∙ c.most_turns.ensures))
 
 pub invariant_of-machine : goal.invariant_of-machine
 invariant_of-machine g c = record {
-  turns = omega (arith, c.machine.invariant.turns, c.if-number-eq-most_turns.false, c.most_turns.ensures, ap (λ (k : Course). most_turns k.state.left_out) c.machine.view_is);
+  turns = omega (arith, c.machine.invariant.turns, c.if-number-most_turns.false, c.most_turns.ensures, ap (λ (k : Course). most_turns k.state.left_out) c.machine.view_is);
   ids = omega (arith, c.machine.invariant.ids);
   versions = λ slot. omega (arith, c.machine.invariant.versions slot);
   counted = c.machine.invariant.counted;
@@ -49,7 +49,7 @@ returns g c =
       ap (λ (k : Course). k.state.turns) c.machine.view_is,
       ap (λ (k : Course). most_turns k.state.left_out) c.machine.view_is,
       c.machine.invariant.turns,
-      c.if-number-eq-most_turns.false,
+      c.if-number-most_turns.false,
       c.most_turns.ensures,
     ))
     (subst (λ (n : ℕ). CallsHandler (g.R.Handlers.slots c.args.rack.now) (g.R.Handlers.slots c.call.new.self) c.args.slot n c.args.what.now (Ok c.in_ok-answer.answer)) (ap (λ (k : Course). k.state.turns) c.machine.view_is) c.in_ok-answer.ensures)
@@ -66,7 +66,7 @@ returns-in_err-answer g c =
       ap (λ (k : Course). k.state.turns) c.machine.view_is,
       ap (λ (k : Course). most_turns k.state.left_out) c.machine.view_is,
       c.machine.invariant.turns,
-      c.if-number-eq-most_turns.false,
+      c.if-number-most_turns.false,
       c.most_turns.ensures,
     ))
     (subst (λ (n : ℕ). CallsHandler (g.R.Handlers.slots c.args.rack.now) (g.R.Handlers.slots c.call.new.self) c.args.slot n c.args.what.now (Err c.in_err-answer.field-0.0)) (ap (λ (k : Course). k.state.turns) c.machine.view_is) c.in_err-answer.ensures)))

@@ -17,7 +17,7 @@ use crate::opening::open;
 use command_stages::{Ended, Ending, Planned, read_planned};
 use command_words::Budget;
 use servient_core::{
-    MOST_TURNS, Plan, RunBounds, SectionsEnd, Served, Servient, serve, serve_in_sections,
+    Plan, RunBounds, SectionsEnd, Served, Servient, serve, serve_in_sections,
 };
 use servient_outside::{Files, Listened, Net};
 use std::alloc::Global;
@@ -117,7 +117,7 @@ fn endure<N: Net, R: Handlers>(
 {
     let bounds = RunBounds {
         events: u64::MAX,
-        turns: MOST_TURNS,
+        turns: servient.most_turns(),
     };
     match serve_in_sections(servient, net, rack, bounds) {
         SectionsEnd::Stopped => Ok(Ending {

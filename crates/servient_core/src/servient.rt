@@ -144,6 +144,13 @@ impl Servient {
         self.layers.exposed.accounts().calls
     }
 
+    /// The most turns that the run may have.
+    pub fn most_turns(&self) -> u64
+        ensures { result ≡ most_turns self.now.exposed.site.left_out }
+    {
+        self.layers.exposed.most_turns()
+    }
+
     /// Makes the step of one event. Where it is out of memory, that shows as a reply or as a poll that is left out.
     pub fn step<N: Net, R: Handlers>(
         &mut self,

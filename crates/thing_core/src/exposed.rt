@@ -23,7 +23,7 @@ use std::marker::Model;
 use thing_handler::Handlers;
 use thing_ops::{Outcome, Request, Segments};
 use thing_site::{IndexedThings, target_at};
-use thing_state::{Machine, place_of, silent_all, unseen_all};
+use thing_state::{MOST_TURNS, Machine, place_of, silent_all, unseen_all};
 use wot_terms::Things;
 
 /// Things, their affordances and the handlers of these, with the state of the Thing machine.
@@ -154,6 +154,13 @@ impl Exposed {
             calls: self.machine.turns(),
             invocations: self.machine.standing(),
         }
+    }
+
+    /// The most turns that a run of this site may have.
+    pub fn most_turns(&self) -> u64
+        ensures { result ≡ most_turns self.now.site.left_out }
+    {
+        MOST_TURNS - u64::from(self.things.left_out())
     }
 
     /// The id of the next invocation, counted over all actions.

@@ -86,6 +86,13 @@ impl IndexedThings {
         self.things.as_slice()
     }
 
+    /// Versions of properties up to this one are left out.
+    pub fn left_out(&self) -> u32
+        ensures { result ≡ self.now.left_out }
+    {
+        self.left_out
+    }
+
     /// The Thing of this segment, found by binary search.
     pub fn named(&self, segment: &[u8]) -> Option<&HeldThing>
         ensures { option_map (λ t. t.now) result ≡ thing_of segment.now self.now.things }

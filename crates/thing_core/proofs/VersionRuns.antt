@@ -97,9 +97,13 @@ one_seen at text slot (v ∷ vs) = by_place (one_seen at text slot vs) (v.slot =
 
 -- ---- reads and writes that are counted
 
-reads_of_both : (slot : ℕ) (a b : List HandlerCall) → reads_and_writes slot (a ++ b) ≡ reads_and_writes slot a + reads_and_writes slot b
-reads_of_both slot [] b = refl
-reads_of_both slot (answered turn ∷ a) b = omega (arith, reads_of_both slot a b)
+pub reads_of_both : (slot : ℕ) (a b : List HandlerCall) → reads_and_writes slot (a ++ b) ≡ reads_and_writes slot a + reads_and_writes slot b
+reads_of_both slot [] b = omega arith
+reads_of_both slot (answered turn ∷ a) b = more (cond ((turn.slot == slot) && reads_or_writes turn.what) 1 0) (reads_of_both slot a b)
+  where
+    more : (n : ℕ) → reads_and_writes slot (a ++ b) ≡ reads_and_writes slot a + reads_and_writes slot b
+        → n + reads_and_writes slot (a ++ b) ≡ (n + reads_and_writes slot a) + reads_and_writes slot b
+    more n e = omega (arith, e)
 reads_of_both slot (missed other ∷ a) b = reads_of_both slot a b
 
 -- one text is seen with one of these

@@ -16,9 +16,7 @@ ghost use Rattle.command_stages.specs.Ending.{EndsBy, Performs};
 use crate::opening::open;
 use command_stages::{Ended, Ending, Planned, read_planned};
 use command_words::Budget;
-use servient_core::{
-    Plan, RunBounds, SectionsEnd, Served, Servient, serve, serve_in_sections,
-};
+use servient_core::{Plan, RunBounds, SectionsEnd, Served, Servient, serve, serve_in_sections};
 use servient_outside::{Files, Listened, Net};
 use std::alloc::Global;
 use thing_handler::Handlers;

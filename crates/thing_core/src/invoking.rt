@@ -13,8 +13,8 @@ use thing_handler::{Answer, CallKind, Handlers, Slot};
 use thing_ops::{Outcome, Segments};
 use thing_site::{Input, LONGEST_VALUE, Spot};
 use thing_state::{
-    Invocation, Machine, TextRoom, call, failure, invocation_in, put_completed,
-    put_running, taken_text,
+    Invocation, Machine, TextRoom, call, failure, invocation_in, put_completed, put_running,
+    taken_text,
 };
 use wot_json::{Bytes, Tree};
 use wot_schema::Schema;

@@ -64,11 +64,7 @@ impl IndexedThings {
     }
 
     /// These Things, with their index.
-    fn of(
-        alloc: Global,
-        things: Vec<HeldThing>,
-        left_out: u32,
-    ) -> Result<IndexedThings, NoMemory>
+    fn of(alloc: Global, things: Vec<HeldThing>, left_out: u32) -> Result<IndexedThings, NoMemory>
         ensures { IfOk result (λ t. t ≡ record { things = things.items; left_out = left_out }) }
     {
         let index = index_of(alloc, things.as_slice())?;

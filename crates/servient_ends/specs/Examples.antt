@@ -47,7 +47,7 @@ ask_that_comes = asks_next get_root ∷ delivers 0 ∷ []
 abbrev pub SomeServientActs : Type 0
 SomeServientActs =
     (client : ClientState) → IsNew 0 client
-    → IsBeginning (of_things []) 0 16 (beside (of_things []) client) × (q : EndsState) × TakesAll (of_things []) ask_that_comes (beside [] client) q × (length q.world.acts ≡ 1)
+    → IsBeginning (of_things []) 0 16 (beside (of_things []) client) × (q : EndsState) × TakesAll (of_things []) ask_that_comes (beside (of_things []) client) q × (length q.world.acts ≡ 1)
 
 -- ---- a row of block-wise reads
 

@@ -3,6 +3,7 @@
 //! ```text
 //! = SEGMENT              the Thing, by the segment of its path; the lines after it are its description
 //! slot POINTER N         the slot of one of its affordances
+//! versions N             the versions up to N are left out
 //! @ KIND ANSWERS         a device of this kind in the next slot, with these answers, `; ` between them;
 //!                        without any the rack is the shipped one
 //! ```
@@ -22,6 +23,7 @@ pub struct Case {
     pub description: String,
     pub slots: Slots,
     pub devices: Vec<Device>,
+    pub left_out: u32,
 }
 
 impl Case {
@@ -32,6 +34,7 @@ impl Case {
             description: String::new(alloc),
             slots: Slots::new(alloc),
             devices: Vec::new(alloc),
+            left_out: 0,
         }
     }
 
@@ -51,6 +54,12 @@ impl Case {
         Ok(())
     }
 
+    /// The versions that are left out.
+    fn leave_out(&mut self, count: &str) -> Result<(), AllocError> {
+        self.left_out = count.parse::<u32>().unwrap_or(0);
+        Ok(())
+    }
+
     /// Takes a line that is no step.
     pub fn take(&mut self, line: &str) -> Result<(), AllocError> {
         match line.split_once(' ') {
@@ -58,6 +67,7 @@ impl Case {
             Some(("=", segment)) => self.segment.push_str(segment),
             Some(("slot", rest)) => self.place(rest),
             Some(("@", what)) => self.fit(what),
+            Some(("versions", count)) => self.leave_out(count),
             _ => self.description.push_str(line),
         }
     }

@@ -67,6 +67,7 @@ fn put_exposed(
         description,
         slots,
         devices,
+        left_out,
         ..
     } = case;
     let things = things_of(alloc, segment.as_str(), description.as_str())?;
@@ -84,7 +85,7 @@ fn put_exposed(
         return Err(AllocError);
     }
     let mut rack = Rack::new(alloc, list);
-    match Exposed::new(alloc, things, &slots, &rack) {
+    match Exposed::new(alloc, things, &slots, &rack, left_out) {
         Ok(exposed) => {
             let mut exposed = exposed;
             put_steps(text, alloc, &mut exposed, &mut rack, block)

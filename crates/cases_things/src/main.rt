@@ -1,5 +1,5 @@
 //! Tables of Things: routes, verbs, outcomes, the directory, and Things as they are exposed. Each word names a file. A
-//! row is an input, ` => `, and its outcome; in `directory`, `exposing` and `acts` the rows between two empty lines are
+//! row is an input, ` => `, and its outcome; in `directory`, `exposing`, `acts` and `tags` the rows between two empty lines are
 //! a history, one after another on the same directory or the same Things. The program prints each row with its real
 //! outcome, and each other line as it is, so that it prints its files, if all is right.
 #![tactic(auto)]
@@ -39,7 +39,7 @@ fn put_file(text: &mut String, alloc: Global, table: &str, lines: &str) -> Resul
                 |text, history| directory::put_history(text, alloc, history),
             )
         }
-        "exposing" | "acts" => exposing::put_cases(text, alloc, lines),
+        "exposing" | "acts" | "tags" => exposing::put_cases(text, alloc, lines),
         _ => put_rows(
             text,
             lines,

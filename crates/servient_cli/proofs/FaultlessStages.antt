@@ -8,7 +8,7 @@ use Rattle.wot_json.specs.Reading.{tree_of}
 use Rattle.servient_outside.specs.declared.files.HeldFile.{HeldFile}
 use Rattle.servient_outside.specs.declared.net.EventWithBytes.{EventWithBytes}
 use Rattle.wot_terms.specs.declared.kind.Kind.{Kind}
-use Rattle.thing_site.specs.Site.{Slots, site_of, expose_faults}
+use Rattle.thing_site.specs.Site.{site_of, expose_faults}
 use Rattle.thing_site.specs.Exposing.{IsFirst}
 use Rattle.thing_site.specs.declared.fault.ExposeFault.{ExposeFault}
 use Rattle.thing_site.specs.declared.fault.ExposeFault.TheVariants as misfit
@@ -90,10 +90,10 @@ no_first faults (misfit.KindDiffers segment pointer) none known first = let gone
 no_first faults (misfit.SlotTwice segment pointer) none known first = let gone = rw none at first in absurd cc
 no_first faults misfit.NoMemory none known first = known refl
 
-expose_well : (name : List ℕ) (kinds : List Kind) (slots : Slots) (things : List (List ℕ × Json)) (seen : List Deed) (o : Outcome Site) → expose_faults kinds slots things ≡ [] → Exposes name kinds slots things seen o → GoesOn (λ site. Unit {0}) o
-expose_well name kinds slots things seen o none (is_exposed also saw goes) = inl (site_of slots things, tt, goes)
-expose_well name kinds slots things seen o none (is_misfit fault known first end) = absurd (no_first (expose_faults kinds slots things) fault none known first)
-expose_well name kinds slots things seen o none (expose_memory end) = inr end.1
+expose_well : (name : List ℕ) (kinds : List Kind) (plan : Plan) (things : List (List ℕ × Json)) (seen : List Deed) (o : Outcome Site) → expose_faults kinds plan.slots things ≡ [] → Exposes name kinds plan things seen o → GoesOn (λ site. Unit {0}) o
+expose_well name kinds plan things seen o none (is_exposed also saw goes) = inl (site_of plan.versions plan.slots things, tt, goes)
+expose_well name kinds plan things seen o none (is_misfit fault known first end) = absurd (no_first (expose_faults kinds plan.slots things) fault none known first)
+expose_well name kinds plan things seen o none (expose_memory end) = inr end.1
 
 -- a table of Things that fit
 pub table_well : (name : List ℕ) (kinds : List Kind) (plan : Plan) (things : List (List ℕ × Json)) (seen : List Deed) (o : Outcome (Unit {0})) → expose_faults kinds plan.slots things ≡ [] → PrintsTable name kinds plan things seen o → EndsWell o
@@ -104,10 +104,9 @@ table_well name kinds plan things seen o none (table_memory end) = inr end.1
 -- a servient is opened
 pub open_well : (name : List ℕ) (kinds : List Kind) (p : Planned) (things : List (List ℕ × Json)) (seen : List Deed) (o : Outcome Site) → derived_of p ≡ Ok things → expose_faults kinds p.plan.slots things ≡ [] → ¬ (HasTrouble seen) → Opens name kinds p seen o → GoesOn (λ site. Unit {0}) o
 open_well name kinds p things seen o derives fits quiet stage =
-    let slots = p.plan.slots in
-    then_goes (Derives p) (Exposes name kinds slots) (λ ts. ts ≡ things) (λ site. Unit {0}) seen o quiet
+    then_goes (Derives p) (Exposes name kinds p.plan) (λ ts. ts ≡ things) (λ site. Unit {0}) seen o quiet
     (λ s r q st. derive_well p things s r derives st)
-    (λ ts same s q st. expose_well name kinds slots ts s o (ap (expose_faults kinds slots) same ∙ fits) st) stage
+    (λ ts same s q st. expose_well name kinds p.plan ts s o (ap (expose_faults kinds p.plan.slots) same ∙ fits) st) stage
 
 pub run_on_well : (name : List ℕ) (kinds : List Kind) (budget : ℕ) (read : Inputs) (things : List (List ℕ × Json)) (seen : List Deed) (o : Outcome (Unit {0})) → derived_of read.planned ≡ Ok things → expose_faults kinds read.planned.plan.slots things ≡ [] → length (run_events read.events) ≤ budget → ¬ (HasTrouble seen)
     → RunsOn name kinds budget read seen o → EndsWell o

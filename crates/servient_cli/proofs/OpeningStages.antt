@@ -4,7 +4,8 @@ use Rattle.std.specs.Prelude.{IfOk, OnOk, MatchResult}
 use Rattle.wot_json.specs.Tree.{Json}
 use Rattle.std.specs.declared.alloc.AllocError.{AllocError}
 use Rattle.wot_terms.specs.declared.kind.Kind.{Kind}
-use Rattle.thing_site.specs.Site.{Slots, expose_faults}
+use Rattle.thing_site.specs.Site.{expose_faults}
+use Rattle.servient_plan.specs.declared.plan.Plan.{Plan}
 use Rattle.thing_site.specs.Exposing.{IsFirst}
 use Rattle.thing_site.specs.declared.fault.ExposeFault.{ExposeFault}
 use Rattle.thing_site.specs.declared.fault.ExposeFault.TheVariants as misfit
@@ -20,10 +21,10 @@ use Rattle.command_stages.specs.Ending.{Performs}
 use Rattle.command_stages.proofs.StageLaws.{ends_line, ends_memory}
 
 -- its Things don't fit the rack, or it is out of memory
-pub misfit_ends : (name : List ℕ) (kinds : List Kind) (slots : Slots) (things : List (List ℕ × Json)) (a : Around) (r : Result Ending AllocError) (fault : ExposeFault) (ended_so : Ended) → IfOk r (λ x. (x.status ≡ 4) × (x.text ≡ input_line name (misfit_text fault))) → OnOk r (fault ≢ misfit.NoMemory)
-    → MatchResult r (λ x. ended_so ≡ ended.With x) (λ _. ended_so ≡ ended.NoMemory) → IsFirst (expose_faults kinds slots things) fault → Performs {A = Site} (Exposes name kinds slots things) a a (Err ended_so)
-misfit_ends name kinds slots things a (Err none) fault ended_so line known comes first =
-    subst (λ (x : Ended). Performs {A = Site} (Exposes name kinds slots things) a a (Err x)) (sym comes) (ends_memory (Exposes name kinds slots things) a (expose_memory (refl, refl)))
-misfit_ends name kinds slots things a (Ok ending) fault ended_so line known comes first =
-    subst (λ (x : Ended). Performs {A = Site} (Exposes name kinds slots things) a a (Err x)) (sym comes)
-    (ends_line (Exposes name kinds slots things) a ending 4 (input_line name (misfit_text fault)) line (is_misfit fault known first (refl, refl)))
+pub misfit_ends : (name : List ℕ) (kinds : List Kind) (plan : Plan) (things : List (List ℕ × Json)) (a : Around) (r : Result Ending AllocError) (fault : ExposeFault) (ended_so : Ended) → IfOk r (λ x. (x.status ≡ 4) × (x.text ≡ input_line name (misfit_text fault))) → OnOk r (fault ≢ misfit.NoMemory)
+    → MatchResult r (λ x. ended_so ≡ ended.With x) (λ _. ended_so ≡ ended.NoMemory) → IsFirst (expose_faults kinds plan.slots things) fault → Performs {A = Site} (Exposes name kinds plan things) a a (Err ended_so)
+misfit_ends name kinds plan things a (Err none) fault ended_so line known comes first =
+    subst (λ (x : Ended). Performs {A = Site} (Exposes name kinds plan things) a a (Err x)) (sym comes) (ends_memory (Exposes name kinds plan things) a (expose_memory (refl, refl)))
+misfit_ends name kinds plan things a (Ok ending) fault ended_so line known comes first =
+    subst (λ (x : Ended). Performs {A = Site} (Exposes name kinds plan things) a a (Err x)) (sym comes)
+    (ends_line (Exposes name kinds plan things) a ending 4 (input_line name (misfit_text fault)) line (is_misfit fault known first (refl, refl)))

@@ -5,7 +5,8 @@ use Rattle.std.proofs.lemmas.List.{append-nil}
 use Rattle.std.proofs.lemmas.List.Elements.{filter-append}
 use Rattle.wot_json.specs.Tree.{Json}
 use Rattle.wot_terms.specs.declared.kind.Kind.{Kind}
-use Rattle.thing_site.specs.Site.{Slots, expose_faults}
+use Rattle.thing_site.specs.Site.{expose_faults}
+use Rattle.servient_plan.specs.declared.plan.Plan.{Plan}
 use Rattle.thing_site.specs.Exposing.{kinds_of}
 use Rattle.command_words.specs.Grammar.{meaning_of}
 use Rattle.command_words.specs.declared.command.Command.{Command}
@@ -150,10 +151,10 @@ derive_not p seen o (is_derived things a b is) = goes_further_on o things is
 derive_not p seen o (plans.is_refused fault a end) = ends_other o 5 end.1 (omega arith)
 derive_not p seen o (derive_memory end) = ends_other o 9 end.1 (omega arith)
 
-expose_not : (name : List ℕ) (kinds : List Kind) (slots : Slots) (things : List (List ℕ × Json)) (seen : List Deed) (o : Outcome Site) → Exposes name kinds slots things seen o → NotSpent o
-expose_not name kinds slots things seen o (is_exposed a b is) = goes_further_on o _ is
-expose_not name kinds slots things seen o (is_misfit fault a b end) = ends_other o 4 end.1 (omega arith)
-expose_not name kinds slots things seen o (expose_memory end) = ends_other o 9 end.1 (omega arith)
+expose_not : (name : List ℕ) (kinds : List Kind) (plan : Plan) (things : List (List ℕ × Json)) (seen : List Deed) (o : Outcome Site) → Exposes name kinds plan things seen o → NotSpent o
+expose_not name kinds plan things seen o (is_exposed a b is) = goes_further_on o _ is
+expose_not name kinds plan things seen o (is_misfit fault a b end) = ends_other o 4 end.1 (omega arith)
+expose_not name kinds plan things seen o (expose_memory end) = ends_other o 9 end.1 (omega arith)
 
 run_not : (seed n exchanges : ℕ) (epoch : Option ℕ) (site : Site) (seen : List Deed) (o : Outcome (Unit {0})) → RunsStorm seed n exchanges epoch site seen o → NotSpent o
 run_not seed n exchanges epoch site seen o (is_counted ran end run end_is) = ends_other o 0 end_is.1 (omega arith)
@@ -163,7 +164,7 @@ storm_not : (kinds : List Kind) (seed n : ℕ) (seen : List Deed) (o : Outcome (
 storm_not kinds seed n seen o stage =
     then_not TakesBuiltIn (λ p. StormsOn kinds seed n (with_few_exchanges p)) seen o thing_not
     (λ p s r st. then_not (Opens (plan_name None) kinds (with_few_exchanges p)) (RunsStorm seed n STORM_EXCHANGES p.plan.epoch) s r
-    (λ s2 r2 st2. then_not (Derives (with_few_exchanges p)) (Exposes (plan_name None) kinds p.plan.slots) s2 r2 (derive_not (with_few_exchanges p)) (expose_not (plan_name None) kinds p.plan.slots) st2)
+    (λ s2 r2 st2. then_not (Derives (with_few_exchanges p)) (Exposes (plan_name None) kinds (with_few_exchanges p).plan) s2 r2 (derive_not (with_few_exchanges p)) (expose_not (plan_name None) kinds (with_few_exchanges p).plan) st2)
     (run_not seed n STORM_EXCHANGES p.plan.epoch) st) stage
 
 command_not : (held : Option (List HeldFile)) (kinds : List Kind) (command : Command) (seen : List Deed) (o : Outcome (Unit {0})) → is_storm (Some command) ≡ true → Does held kinds command seen o → NotSpent o

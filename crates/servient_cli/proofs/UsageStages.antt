@@ -7,7 +7,6 @@ use Rattle.wot_json.specs.declared.tree.Tree.{Tree}
 use Rattle.tm_parts.specs.Library.{Models}
 use Rattle.wot_json.specs.Tree.{Json}
 use Rattle.wot_terms.specs.declared.kind.Kind.{Kind}
-use Rattle.thing_site.specs.Site.{Slots}
 use Rattle.thing_site.specs.Exposing.{kinds_of}
 use Rattle.servient_outside.specs.declared.place.Place.{Place}
 use Rattle.servient_core.specs.declared.serving.Served.TheVariants as served
@@ -111,10 +110,10 @@ run_not budget events exchanges epoch site seen o (is_whole ran end a b e) = by_
 run_not budget events exchanges epoch site seen o (is_spent ran end a b e) = by_status o 8 e.1 (omega arith, omega arith)
 run_not budget events exchanges epoch site seen o (run_memory ran end count b e) = by_status o 9 e.1 (omega arith, omega arith)
 
-expose_not : (name : List ℕ) (kinds : List Kind) (slots : Slots) (things : List (List ℕ × Json)) (seen : List Deed) (o : Outcome Site) → Exposes name kinds slots things seen o → EndsPlainly o
-expose_not name kinds slots things seen o (is_exposed a b is) = goes_by o _ is
-expose_not name kinds slots things seen o (is_misfit fault a b e) = by_status o 4 e.1 (omega arith, omega arith)
-expose_not name kinds slots things seen o (expose_memory e) = by_status o 9 e.1 (omega arith, omega arith)
+expose_not : (name : List ℕ) (kinds : List Kind) (plan : Plan) (things : List (List ℕ × Json)) (seen : List Deed) (o : Outcome Site) → Exposes name kinds plan things seen o → EndsPlainly o
+expose_not name kinds plan things seen o (is_exposed a b is) = goes_by o _ is
+expose_not name kinds plan things seen o (is_misfit fault a b e) = by_status o 4 e.1 (omega arith, omega arith)
+expose_not name kinds plan things seen o (expose_memory e) = by_status o 9 e.1 (omega arith, omega arith)
 
 judge_not : (tree : Tree) (seen : List Deed) (o : Outcome (Unit {0})) → Judges tree seen o → EndsPlainly o
 judge_not tree seen o (is_valid a e) = by_status o 0 e.1 (omega arith, omega arith)
@@ -181,7 +180,7 @@ inputs_not held plan script seen o stage =
     (λ s2 r2 st2. then_not (ReadsFile held longest_script script) (ReadsScript script) s2 r2 (file_not held longest_script script) (script_not script) st2) (read_not p) st) stage
 
 open_not : (name : List ℕ) (kinds : List Kind) (p : Planned) (seen : List Deed) (o : Outcome Site) → Opens name kinds p seen o → EndsPlainly o
-open_not name kinds p seen o stage = then_not (Derives p) (Exposes name kinds p.plan.slots) seen o (derive_not p) (expose_not name kinds p.plan.slots) stage
+open_not name kinds p seen o stage = then_not (Derives p) (Exposes name kinds p.plan) seen o (derive_not p) (expose_not name kinds p.plan) stage
 
 run_on_not : (name : List ℕ) (kinds : List Kind) (budget : ℕ) (read : Inputs) (seen : List Deed) (o : Outcome (Unit {0})) → RunsOn name kinds budget read seen o → EndsPlainly o
 run_on_not name kinds budget read seen o stage =

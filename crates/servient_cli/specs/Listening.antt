@@ -66,14 +66,14 @@ line_at_end ending.Stopped = []
 line_at_end ending.Failed = network_line
 line_at_end ending.Spent = spent_line
 
--- as many events as can be counted, which is no bound that a run comes to, and as many turns as have numbers
-abbrev pub widest : RunBounds
-widest = record { events = 2 ^ 64 - 1; turns = most_turns }
+-- as many events as can be counted, which is no bound that a run comes to, and as many turns as a run of the site may have
+abbrev pub widest : Site → RunBounds
+widest site = record { events = 2 ^ 64 - 1; turns = most_turns site.left_out }
 
 -- Serving as many events as come: one run of the machine from its start, shown in sections.
 pub data Endures (exchanges : ℕ) (epoch : Option ℕ) (site : Site) (seen : List Deed) (o : Outcome (Unit {0})) : Type 0 where
   has_endured : (result : SectionsEnd) (shown : List Shown) (end : State)
-      → ServesInSections site widest result (start site exchanges epoch) shown end
+      → ServesInSections site (widest site) result (start site exchanges epoch) shown end
       → EndsWith (shows_all shown) (status_at_end result) (line_at_end result) seen o → Endures exchanges epoch site seen o
 
 -- serving as the budget of the words says

@@ -16,9 +16,7 @@ ghost use Rattle.command_stages.specs.Ending.{EndsBy, Performs};
 use crate::opening::open;
 use command_stages::{Ended, Ending, Planned, read_planned};
 use command_words::Budget;
-use servient_core::{
-    MOST_TURNS, Plan, RunBounds, SectionsEnd, Served, Servient, serve, serve_in_sections,
-};
+use servient_core::{Plan, RunBounds, SectionsEnd, Served, Servient, serve, serve_in_sections};
 use servient_outside::{Files, Listened, Net};
 use std::alloc::Global;
 use thing_handler::Handlers;
@@ -117,7 +115,7 @@ fn endure<N: Net, R: Handlers>(
 {
     let bounds = RunBounds {
         events: u64::MAX,
-        turns: MOST_TURNS,
+        turns: servient.most_turns(),
     };
     match serve_in_sections(servient, net, rack, bounds) {
         SectionsEnd::Stopped => Ok(Ending {

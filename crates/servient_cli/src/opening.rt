@@ -46,7 +46,7 @@ fn expose<R: Handlers>(
     requires served { MayBeServed plan.now }
     requires valid { AllByRecursion (λ thing. IsValid thing.1) things }
     requires plain { AllByRecursion (λ thing. is_plain_segment thing.0 ≡ true) things }
-    ensures stage { (a : Around) → Performs (Exposes name.now (kinds_of (R.slots rack.now)) plan.now.slots things) a a (site_in result) }
+    ensures stage { (a : Around) → Performs (Exposes name.now (kinds_of (R.slots rack.now)) plan.now things) a a (site_in result) }
     ensures start { IfOk result (λ s. StandsFor s (start s.exposed.site plan.now.exchanges plan.now.epoch)) }
     ensures fits { IfOk result (λ s. Fits s.exposed.site (R.slots rack.now)) }
 {

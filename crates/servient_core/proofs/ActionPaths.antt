@@ -134,7 +134,7 @@ observed_short (Some p) path = if_observed p.affordance.observable
 
 place_short : (form : RouteKind) (path : List (List ℕ)) (site : Site) → All (λ segment. length segment ≤ 255) path → ThreeIfAction form path
     → ShortIfFound (place_at form path site) path
-place_short route.Root path site short three = mapped description (slice_get site 0) path (λ _. tt)
+place_short route.Root path site short three = mapped description (slice_get site.things 0) path (λ _. tt)
 place_short route.Thing path site short three = mapped description (thing_in path site) path (λ _. tt)
 place_short route.All path site short three = mapped all_properties (thing_in path site) path (λ _. tt)
 place_short route.Property path site short three = mapped property (affordance_in kind.Property path site) path (λ _. tt)

@@ -197,12 +197,12 @@ polls_and_delivers p k l e n m before after made delivered =
 pub record Polling (first k : Layers) (round : Round) (w v : Outside) : Type 0 where
   pub done : List Placed
   pub made : Refines StandsFor Shows (Each PollsAndDelivers done) first k w v
-  pub left : done ++ events_left round first.exposed.site ≡ events_of first.exposed.site
+  pub left : done ++ events_left round first.exposed.site.things ≡ events_of first.exposed.site.things
   pub ready : IsReady k
   pub site : k.exposed.site ≡ first.exposed.site
   pub fits : Fits k.exposed.site v.slots
 
-pub polling_begins : (k : Layers) (round : Round) (w : Outside) → events_left round k.exposed.site ≡ events_of k.exposed.site → IsReady k → Fits k.exposed.site w.slots
+pub polling_begins : (k : Layers) (round : Round) (w : Outside) → events_left round k.exposed.site.things ≡ events_of k.exposed.site.things → IsReady k → Fits k.exposed.site w.slots
     → Polling k k round w w
 polling_begins k round w all ready fits = record {
   done = [];
@@ -218,8 +218,8 @@ pub polling_more : (first k l : Layers) (round later : Round) (w v u : Outside) 
 polling_more first k l round later w v u t (polls round' p is step) ready same fits = record {
   done = t.done ++ p ∷ [];
   made = refines_each_more StandsFor Shows shows_in_order PollsAndDelivers t.done p first k l w v u t.made step;
-  left = append_assoc t.done (p ∷ []) (events_left later first.exposed.site)
-      ∙ ap (λ (ps : List Placed). t.done ++ ps) (sym (subst (λ (site : Site). events_left round site ≡ p ∷ events_left later site) t.site is))
+  left = append_assoc t.done (p ∷ []) (events_left later first.exposed.site.things)
+      ∙ ap (λ (ps : List Placed). t.done ++ ps) (sym (subst (λ (site : Site). events_left round site.things ≡ p ∷ events_left later site.things) t.site is))
       ∙ t.left;
   ready = ready;
   site = same ∙ t.site;
@@ -227,19 +227,19 @@ polling_more first k l round later w v u t (polls round' p is step) ready same f
 }
 
 pub polling_smaller : (k l : Layers) (round later : Round) (v u : Outside) → PollsOne later k l v u true round
-    → length (events_left later k.exposed.site) < length (events_left round k.exposed.site)
+    → length (events_left later k.exposed.site.things) < length (events_left round k.exposed.site.things)
 polling_smaller k l round later v u (polls round' p is step) = omega (arith, ap length is)
 
 pub polling_ends : (first k l : Layers) (round later : Round) (w v u : Outside) → Polling first k round w v → PollsOne later k l v u false round
-    → DoesMove (Each PollsAndDelivers (events_of first.exposed.site)) first l w u
+    → DoesMove (Each PollsAndDelivers (events_of first.exposed.site.things)) first l w u
 polling_ends first k l round later w v u t (ends round' none same unseen) =
-    let all : t.done ≡ events_of first.exposed.site =
+    let all : t.done ≡ events_of first.exposed.site.things =
     sym (append-nil t.done)
-    ∙ ap (λ (ps : List Placed). t.done ++ ps) (sym (subst (λ (site : Site). events_left round site ≡ []) t.site none))
+    ∙ ap (λ (ps : List Placed). t.done ++ ps) (sym (subst (λ (site : Site). events_left round site.things ≡ []) t.site none))
     ∙ t.left in
     record {
-      refines = subst (λ (x : Outside). Refines StandsFor Shows (Each PollsAndDelivers (events_of first.exposed.site)) first l w x) (sym unseen)
-          (subst (λ (x : Layers). Refines StandsFor Shows (Each PollsAndDelivers (events_of first.exposed.site)) first x w v) (sym same)
+      refines = subst (λ (x : Outside). Refines StandsFor Shows (Each PollsAndDelivers (events_of first.exposed.site.things)) first l w x) (sym unseen)
+          (subst (λ (x : Layers). Refines StandsFor Shows (Each PollsAndDelivers (events_of first.exposed.site.things)) first x w v) (sym same)
           (subst (λ (ps : List Placed). Refines StandsFor Shows (Each PollsAndDelivers ps) first k w v) all t.made));
       ready = subst IsReady (sym same) t.ready;
       site = ap (λ (x : Layers). x.exposed.site) same ∙ t.site;

@@ -60,30 +60,30 @@ links_name_each_thing segments r plain reads some = read_back (links_to segments
 
 -- ---- the links of a servient
 
-segments_are : (slots : Slots) (list : List Thing) → segments_in list ≡ segments_of (site_of slots (kept_things list))
-segments_are slots [] = refl
-segments_are slots (t ∷ ts) = ap (λ (ss : List (List ℕ)). t.segment ∷ ss) (segments_are slots ts)
+segments_are : (left_out : ℕ) (slots : Slots) (list : List Thing) → segments_in list ≡ segments_of (site_of left_out slots (kept_things list))
+segments_are left_out slots [] = refl
+segments_are left_out slots (t ∷ ts) = ap (λ (ss : List (List ℕ)). t.segment ∷ ss) (segments_are left_out slots ts)
 
 -- by the Things that were handed in
-pub segments_same : (slots : Slots) (list : List Thing) (things : List (List ℕ × Json)) (site : Site) → kept_things list ≡ things → site ≡ site_of slots things
+pub segments_same : (left_out : ℕ) (slots : Slots) (list : List Thing) (things : List (List ℕ × Json)) (site : Site) → kept_things list ≡ things → site ≡ site_of left_out slots things
     → segments_in list ≡ segments_of site
-segments_same slots list things site kept is =
-    segments_are slots list ∙ ap (λ (ts : List (List ℕ × Json)). segments_of (site_of slots ts)) kept ∙ sym (ap segments_of is)
+segments_same left_out slots list things site kept is =
+    segments_are left_out slots list ∙ ap (λ (ts : List (List ℕ × Json)). segments_of (site_of left_out slots ts)) kept ∙ sym (ap segments_of is)
 
 -- the CoAP server is that with which the machine begins
-pub coap_starts : (slots : Slots) (list : List Thing) (things : List (List ℕ × Json)) (site : Site) (exchanges : ℕ) (epoch : Option ℕ) (coap : Server) → kept_things list ≡ things → site ≡ site_of slots things
+pub coap_starts : (left_out : ℕ) (slots : Slots) (list : List Thing) (things : List (List ℕ × Json)) (site : Site) (exchanges : ℕ) (epoch : Option ℕ) (coap : Server) → kept_things list ≡ things → site ≡ site_of left_out slots things
     → coap ≡ with_links (text_of_links (segments_in list)) (nothing_came exchanges MOST_WATCHERS) → (start site exchanges epoch).coap ≡ coap
-coap_starts slots list things site exchanges epoch coap kept is coap_is =
-    ap (λ (ss : List (List ℕ)). with_links (text_of_links ss) (nothing_came exchanges MOST_WATCHERS)) (sym (segments_same slots list things site kept is)) ∙ sym coap_is
+coap_starts left_out slots list things site exchanges epoch coap kept is coap_is =
+    ap (λ (ss : List (List ℕ)). with_links (text_of_links ss) (nothing_came exchanges MOST_WATCHERS)) (sym (segments_same left_out slots list things site kept is)) ∙ sym coap_is
 
-plain_segments : (slots : Slots) (things : List (List ℕ × Json)) → AllByRecursion (λ t. is_plain_segment t.0 ≡ true) things
-    → AllByRecursion (λ s. is_plain_segment s ≡ true) (segments_of (site_of slots things))
-plain_segments slots [] plain = tt
-plain_segments slots (t ∷ ts) plain = (plain.0, plain_segments slots ts plain.1)
+plain_segments : (left_out : ℕ) (slots : Slots) (things : List (List ℕ × Json)) → AllByRecursion (λ t. is_plain_segment t.0 ≡ true) things
+    → AllByRecursion (λ s. is_plain_segment s ≡ true) (segments_of (site_of left_out slots things))
+plain_segments left_out slots [] plain = tt
+plain_segments left_out slots (t ∷ ts) plain = (plain.0, plain_segments left_out slots ts plain.1)
 
-pub links_stand : (slots : Slots) (things : List (List ℕ × Json)) (site : Site) (text : List ℕ) → site ≡ site_of slots things → text ≡ text_of_links (segments_of site)
+pub links_stand : (left_out : ℕ) (slots : Slots) (things : List (List ℕ × Json)) (site : Site) (text : List ℕ) → site ≡ site_of left_out slots things → text ≡ text_of_links (segments_of site)
     → AllByRecursion (λ t. is_plain_segment t.0 ≡ true) things → IsLinkText text (links_to (segments_of site))
-links_stand slots things site text is text_is_it plain =
+links_stand left_out slots things site text is text_is_it plain =
     subst (λ (x : List ℕ). IsLinkText x (links_to (segments_of site))) (sym text_is_it)
     (text_is (links_to (segments_of site)) (can_be_written (segments_of site)
-    (subst (λ (s : Site). AllByRecursion (λ x. is_plain_segment x ≡ true) (segments_of s)) (sym is) (plain_segments slots things plain))))
+    (subst (λ (s : Site). AllByRecursion (λ x. is_plain_segment x ≡ true) (segments_of s)) (sym is) (plain_segments left_out slots things plain))))

@@ -244,7 +244,7 @@ follows_keeps site (what.Bytes c size) bytes s seen t both =
     (until_keeps (TakesNextMessage site c) (λ (x : State). IsDry c x.http) (λ x calls y m. takes_keeps site c x calls y m) both.mid both.second t both.other) both.whole
 follows_keeps site (what.Ended c) bytes s seen t on = http_keeps (λ now. Ended c) s seen t on
 follows_keeps site (what.Datagram from size) bytes s seen t receives = receives_keeps site from bytes s seen t receives
-follows_keeps site what.Tick bytes s seen t each = each_keeps PollsAndDelivers (λ x a calls b m. polls_keeps x a calls b m) (events_of site) s seen t each
+follows_keeps site what.Tick bytes s seen t each = each_keeps PollsAndDelivers (λ x a calls b m. polls_keeps x a calls b m) (events_of site.things) s seen t each
 follows_keeps site what.Stop bytes s seen t stays = stays_keeps s t seen stays.next stays.saw
 
 pub step_keeps : (site : Site) (e : EventWithBytes) (s : State) (seen : List Sighting) (t : State) → Step site e s seen t → Keeps [] s seen t

@@ -270,7 +270,7 @@ follows_goes_on k history now site what.Tick bytes s t seen each h = record {
   new = [];
   requests = refl;
   holds = nothing_new k history now t
-      (each_holds k history now PollsAndDelivers (λ x a b calls move. polls_holds k history now x a b calls move) (events_of site) s t seen each h);
+      (each_holds k history now PollsAndDelivers (λ x a b calls move. polls_holds k history now x a b calls move) (events_of site.things) s t seen each h);
 }
 follows_goes_on k history now site what.Stop bytes s t seen ends h =
     record { new = []; requests = refl; holds = nothing_new k history now t (becomes k history now s t ends.next h) }

@@ -22,7 +22,7 @@ fits_all P Q each (x ∷ xs) all = (each x all.0, fits_all P Q each xs all.1)
 
 pub fits_forgotten : (site : Site) (slots : List Seen) → Fits site slots → Fits site (map forgotten slots)
 fits_forgotten site slots fits =
-    fits_all (ThingFits slots) (ThingFits (map forgotten slots)) (λ thing. fits_all (FitsSlot slots) (FitsSlot (map forgotten slots)) (fits_slot slots) thing.affordances) site fits
+    fits_all (ThingFits slots) (ThingFits (map forgotten slots)) (λ thing. fits_all (FitsSlot slots) (FitsSlot (map forgotten slots)) (fits_slot slots) thing.affordances) site.things fits
 
 -- ---- turns that are kept
 

@@ -99,6 +99,6 @@ pub record SendsToWait (c : ℕ) (text : Option (List ℕ)) (moment : ℕ) (b d 
 -- The effect of an ask for the next poll of a round: the first event that is left was polled, and its emissions were
 -- delivered; or none is left, and nothing was done.
 pub data PollsOne (later : Round) (old new : Layers) (before after : Outside) : Bool → Round → Type 0 where
-  polls : (round : Round) (p : Placed) → events_left round old.exposed.site ≡ p ∷ events_left later old.exposed.site
+  polls : (round : Round) (p : Placed) → events_left round old.exposed.site.things ≡ p ∷ events_left later old.exposed.site.things
       → Refines StandsFor Shows (PollsAndDelivers p) old new before after → PollsOne later old new before after true round
-  ends : (round : Round) → events_left round old.exposed.site ≡ [] → new ≡ old → after ≡ before → PollsOne later old new before after false round
+  ends : (round : Round) → events_left round old.exposed.site.things ≡ [] → new ≡ old → after ≡ before → PollsOne later old new before after false round

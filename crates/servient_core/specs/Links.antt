@@ -32,7 +32,7 @@ text_of_links segments = links_text (links_to segments)
 
 -- the segments of Things, in their order
 abbrev pub segments_of : Site → List (List ℕ)
-segments_of site = map (λ thing. thing.segment) site
+segments_of site = map (λ thing. thing.segment) site.things
 
 -- Where each segment is plain, reading that text gives just these links, a link to each Thing in order; or the reader
 -- is out of memory.

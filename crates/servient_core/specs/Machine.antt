@@ -40,7 +40,8 @@ use Rattle.servient_core.specs.Links.{segments_of, text_of_links}
 
 -- ---- the state
 
--- The constants of a run, which are no part of the state: the Things, each affordance with the slot of its handler.
+-- The constants of a run, which are no part of the state: the Things, each affordance with the slot of its handler, and
+-- the versions of properties that the run leaves out.
 abbrev pub Site : Type 0
 Site = Things
 
@@ -225,7 +226,7 @@ Follows site (what.Opened connection) bytes before seen after = OnHttp (Opened c
 Follows site (what.Bytes connection size) bytes before seen after = HearsPiece site connection bytes before seen after
 Follows site (what.Ended connection) bytes before seen after = OnHttp (λ now. Ended connection) before seen after
 Follows site (what.Datagram from size) bytes before seen after = HearsDatagram site from bytes before seen after
-Follows site what.Tick bytes before seen after = Each PollsAndDelivers (events_of site) before seen after
+Follows site what.Tick bytes before seen after = Each PollsAndDelivers (events_of site.things) before seen after
 Follows site what.Stop bytes before seen after = Stays before seen after
 
 -- One event: the machine's moment becomes the greater of itself and the event's, then comes what follows, then its end.

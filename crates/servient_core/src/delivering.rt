@@ -54,7 +54,7 @@ impl Layers {
     pub fn poll_all<N: Net, R: Handlers>(&mut self, net: &mut N, rack: &mut R, room: &mut ReplyRoom)
         requires ready { IsReady self.old }
         requires fits { Fits self.old.exposed.site (R.slots rack.old) }
-        ensures { DoesMove (Each PollsAndDelivers (events_of self.old.exposed.site)) self.old self.new
+        ensures { DoesMove (Each PollsAndDelivers (events_of self.old.exposed.site.things)) self.old self.new
             (outside (N.seen net.old) (R.slots rack.old)) (outside (N.seen net.new) (R.slots rack.new)) }
     {
         let mut round = Round::new();

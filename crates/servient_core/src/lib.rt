@@ -44,4 +44,4 @@ pub use servient_edge::{
 };
 pub use servient_plan::{ModelFiles, Plan, PlanFault};
 pub use serving::{Served, serve};
-pub use thing_core::{MOST_TURNS, Slots};
+pub use thing_core::Slots;

@@ -75,7 +75,7 @@ pub fn serve_in_sections<N: Net, R: Handlers>(
 /// Has the handlers forget their turns, once the run has `due` of them. Returns the number of turns at which they are
 /// to forget again. It is a function of its own, because both ways go on to one call.
 fn forget_if_due<R: Handlers>(rack: &mut R, turns: u64, due: u64) -> u64
-    requires { turns ≤ most_turns }
+    requires { turns ≤ most_turns 0 }
     ensures { ForgetsIfDue turns due result (R.slots rack.old) (R.slots rack.new) }
 {
     if turns < due {

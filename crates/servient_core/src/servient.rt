@@ -109,7 +109,7 @@ impl Servient {
         requires least { 16 ≤ plan.now.exchanges }
         requires most { plan.now.exchanges ≤ 65536 }
         requires epoch { IfSome plan.now.epoch (λ e. e ≤ last_millisecond) }
-        ensures site { IfOk result (λ s. s.exposed.site ≡ site_of plan.now.slots things) }
+        ensures site { IfOk result (λ s. s.exposed.site ≡ site_of plan.now.versions plan.now.slots things) }
         ensures start { IfOk result (λ s. StandsFor s (start s.exposed.site plan.now.exchanges plan.now.epoch)) }
         // Its links are a link text, with a link to each Thing in order.
         ensures links { IfOk result (λ s. IsLinkText s.coap.links (links_to (segments_of s.exposed.site))) }
@@ -120,7 +120,7 @@ impl Servient {
         let rooms = Rooms::new(alloc)?;
         let http = HttpBind::new(alloc)?;
         let coap = coap_of(alloc, plan.exchanges, things.as_slice())?;
-        let exposed = match Exposed::new(alloc, things, &plan.slots, rack) {
+        let exposed = match Exposed::new(alloc, things, &plan.slots, rack, plan.versions) {
             Ok(exposed) => exposed,
             Err(fault) => return Err(OpenFault::Expose(fault)),
         };
@@ -139,9 +139,16 @@ impl Servient {
     /// The number of turns that the run has so far.
     pub fn turns(&self) -> u64
         ensures count { result ≡ self.now.exposed.state.turns }
-        ensures bound { result ≤ most_turns }
+        ensures bound { result ≤ most_turns self.now.exposed.state.left_out }
     {
         self.layers.exposed.accounts().calls
+    }
+
+    /// The most turns that the run may have.
+    pub fn most_turns(&self) -> u64
+        ensures { result ≡ most_turns self.now.exposed.site.left_out }
+    {
+        self.layers.exposed.most_turns()
     }
 
     /// Makes the step of one event. Where it is out of memory, that shows as a reply or as a poll that is left out.

@@ -31,7 +31,7 @@ use Rattle.servient_core.specs.Links.{segments_of, text_of_links}
 use Rattle.servient_core.specs.Machine.{Site, State, start, EventAndStep}
 use Rattle.servient_world.specs.World.{client_place, server_place, copy_of, reply_to, WorldState, acts_for, id_used, with_sent, ClientAsks, sends_ask}
 use Rattle.servient_ends.specs.Ends.{EndsState, IsBeginning, act_of, back_of, emitted_by_datagram, notifications_in, with_emissions, with_notifications, event_at, ServientHears, Arrives, to_servient, TakesAll}
-use Rattle.servient_ends.specs.Examples.{beside, get_root, ask_that_comes, SomeServientActs}
+use Rattle.servient_ends.specs.Examples.{of_things, beside, get_root, ask_that_comes, SomeServientActs}
 
 -- ---- what is sent
 
@@ -104,7 +104,7 @@ asked_state uses = with_request (fresh uses) server_place get_root 0
 
 abbrev asked_world : List (Option ℕ) → WorldState
 asked_world uses =
-    with_sent (record (beside [] (fresh uses)).world { client = asked_state uses; asks = request_for (fresh uses) server_place get_root 0 ∷ [] })
+    with_sent (record (beside (of_things []) (fresh uses)).world { client = asked_state uses; asks = request_for (fresh uses) server_place get_root 0 ∷ [] })
     client_place server_place (copy_of 0) (sent_bytes ∷ [])
 
 may_ask_it : MayAsk get_root
@@ -119,7 +119,7 @@ asks_it uses unused = record {
   after = refl;
 }
 
-asking_plays : (uses : List (Option ℕ)) → slice_index_or uses 0 None ≡ None → ClientAsks get_root (beside [] (fresh uses)).world (asked_world uses)
+asking_plays : (uses : List (Option ℕ)) → slice_index_or uses 0 None ≡ None → ClientAsks get_root (beside (of_things []) (fresh uses)).world (asked_world uses)
 unfolding asks_it
 asking_plays uses unused = sends_ask (length question_bytes) question_bytes question_bytes (asked_state uses) may_ask_it (asks_it uses unused) refl
 
@@ -155,10 +155,10 @@ answers_it = record {
 }
 
 abbrev things : ThingState
-things = (start [] 16 None).thing
+things = (start (of_things []) 16 None).thing
 
 -- nothing is there
-acts_on_it : Acts [] (what_is_asked question).request (only outcome.NotFound) things [] things
+acts_on_it : Acts (of_things []) (what_is_asked question).request (only outcome.NotFound) things [] things
 acts_on_it = refuses outcome.NotFound (inl (refl, refl)) (refl, record { next = refl; saw = refl })
 
 sends_nothing : SendsNext 0 None answered_server answered_server
@@ -171,14 +171,14 @@ abbrev reply_seen : List Sighting
 reply_seen = at_network (did (act.Datagram client_place answer_bytes)) ∷ []
 
 abbrev heard_state : State
-heard_state = record (start [] 16 None) { coap = admitting }
+heard_state = record (start (of_things []) 16 None) { coap = admitting }
 
 abbrev answered_state : State
-answered_state = record (start [] 16 None) { coap = answered_server }
+answered_state = record (start (of_things []) 16 None) { coap = answered_server }
 
-abbrev the_step : EventAndStep [] it_comes (start [] 16 None) (at_network (heard it_comes) ∷ reply_seen) answered_state
+abbrev the_step : EventAndStep (of_things []) it_comes (start (of_things []) 16 None) (at_network (heard it_comes) ∷ reply_seen) answered_state
 the_step = record {
-  mid = start [] 16 None;
+  mid = start (of_things []) 16 None;
   first = at_network (heard it_comes) ∷ [];
   second = reply_seen;
   one = record { next = refl; saw = refl };
@@ -257,30 +257,30 @@ the_step = record {
 abbrev answered_world : List (Option ℕ) → WorldState
 answered_world uses =
     with_notifications things (notifications_in the_step.other.mid the_step.other.second answered_state the_step.other.other)
-    (with_emissions (emitted_by_datagram [] client_place sent_bytes (start [] 16 None) the_step.other.first the_step.other.mid the_step.other.one)
+    (with_emissions (emitted_by_datagram (of_things []) client_place sent_bytes (start (of_things []) 16 None) the_step.other.first the_step.other.mid the_step.other.one)
     (with_sent (record (asked_world uses) {
       server = answered_server;
-      acts = acts_for (copy_of 0) (act_of [] client_place sent_bytes (start [] 16 None) the_step.other.first the_step.other.mid the_step.other.one);
-      ids = 0 + id_used (start [] 16 None).coap the_step.other.mid.coap;
-    }) server_place client_place (reply_to 0) (back_of [] client_place sent_bytes (start [] 16 None) the_step.other.first the_step.other.mid the_step.other.one)))
+      acts = acts_for (copy_of 0) (act_of (of_things []) client_place sent_bytes (start (of_things []) 16 None) the_step.other.first the_step.other.mid the_step.other.one);
+      ids = 0 + id_used (start (of_things []) 16 None).coap the_step.other.mid.coap;
+    }) server_place client_place (reply_to 0) (back_of (of_things []) client_place sent_bytes (start (of_things []) 16 None) the_step.other.first the_step.other.mid the_step.other.one)))
 
 abbrev asked_ends : List (Option ℕ) → EndsState
-asked_ends uses = record { world = asked_world uses; servient = start [] 16 None }
+asked_ends uses = record { world = asked_world uses; servient = start (of_things []) 16 None }
 
 abbrev acted_ends : List (Option ℕ) → EndsState
 acted_ends uses = record { world = answered_world uses; servient = answered_state }
 
-hears_turn : (uses : List (Option ℕ)) → ServientHears [] client_place (length sent_bytes) sent_bytes (copy_of 0) (asked_ends uses) (acted_ends uses)
+hears_turn : (uses : List (Option ℕ)) → ServientHears (of_things []) client_place (length sent_bytes) sent_bytes (copy_of 0) (asked_ends uses) (acted_ends uses)
 hears_turn uses = record { seen = at_network (heard it_comes) ∷ reply_seen; step = the_step; next = refl }
 
-arrives : (uses : List (Option ℕ)) → Arrives [] (record { moment = 0; from = client_place; to = server_place; bytes = sent_bytes; purpose = copy_of 0 }) (asked_ends uses) (acted_ends uses)
+arrives : (uses : List (Option ℕ)) → Arrives (of_things []) (record { moment = 0; from = client_place; to = server_place; bytes = sent_bytes; purpose = copy_of 0 }) (asked_ends uses) (acted_ends uses)
 arrives uses = to_servient refl refl (hears_turn uses)
 
-acted_run : (uses : List (Option ℕ)) → slice_index_or uses 0 None ≡ None → (q : EndsState) × TakesAll [] ask_that_comes (beside [] (fresh uses)) q × (length q.world.acts ≡ 1)
+acted_run : (uses : List (Option ℕ)) → slice_index_or uses 0 None ≡ None → (q : EndsState) × TakesAll (of_things []) ask_that_comes (beside (of_things []) (fresh uses)) q × (length q.world.acts ≡ 1)
 acted_run uses unused = (acted_ends uses, (asked_ends uses, record { does = asking_plays uses unused; same = refl }, (acted_ends uses, arrives uses, refl)), refl)
 
 pub some_servient_acts : SomeServientActs
 some_servient_acts s new =
-    let run : (q : EndsState) × TakesAll [] ask_that_comes (beside [] s) q × (length q.world.acts ≡ 1)
-    = subst (λ (t : ClientState). (q : EndsState) × TakesAll [] ask_that_comes (beside [] t) q × (length q.world.acts ≡ 1)) (sym (is_fresh s new)) (acted_run s.uses (new.unused 0)) in
-    (starts [] s new, run.0, run.1, run.2)
+    let run : (q : EndsState) × TakesAll (of_things []) ask_that_comes (beside (of_things []) s) q × (length q.world.acts ≡ 1)
+    = subst (λ (t : ClientState). (q : EndsState) × TakesAll (of_things []) ask_that_comes (beside (of_things []) t) q × (length q.world.acts ≡ 1)) (sym (is_fresh s new)) (acted_run s.uses (new.unused 0)) in
+    (starts (of_things []) s new, run.0, run.1, run.2)

@@ -29,12 +29,12 @@ use Rattle.servient_world.specs.Laws.{Asked}
 use Rattle.servient_world.specs.Rows.{RowAsk, AreReads, AreInOrder, NoOther, IsOfPath}
 use Rattle.coap_msg.specs.declared.block.Block.{Block}
 use Rattle.servient_ends.specs.Ends.{EndsState, Arrives, to_client, to_servient, TakesAll}
-use Rattle.servient_ends.specs.Examples.{beside, plain_thing, links_path, get_links, reads_in_two, first_read, last_read, SomeReadsEnd}
+use Rattle.servient_ends.specs.Examples.{of_things, beside, plain_thing, links_path, get_links, reads_in_two, first_read, last_read, SomeReadsEnd}
 use Rattle.servient_ends.proofs.ExampleLaws.{fresh, is_fresh, starts}
 use Rattle.servient_ends.proofs.AtOnce as once
 
 abbrev things : Site
-things = plain_thing ∷ []
+things = of_things (plain_thing ∷ [])
 
 abbrev text : List ℕ
 text = text_of_links (segments_of things)

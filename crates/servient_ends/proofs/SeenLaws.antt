@@ -113,7 +113,7 @@ other_quiet site (what.Bytes c size) bytes s t seen plain f =
     (until_quiet (TakesNextMessage site c) (λ (x : State). IsDry c x.http) (next_quiet site c) f.mid t f.second f.other)
 other_quiet site (what.Ended c) bytes s t seen plain f = quiet_as [] seen f.2.saw refl
 other_quiet site (what.Datagram from size) bytes s t seen plain f = absurd plain
-other_quiet site what.Tick bytes s t seen plain f = each_quiet PollsAndDelivers poll_quiet (events_of site) s t seen f
+other_quiet site what.Tick bytes s t seen plain f = each_quiet PollsAndDelivers poll_quiet (events_of site.things) s t seen f
 other_quiet site what.Stop bytes s t seen plain f = quiet_as [] seen f.saw refl
 
 -- ---- what is sent back

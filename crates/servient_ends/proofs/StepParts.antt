@@ -216,7 +216,7 @@ other_happened site (what.Bytes c size) bytes s t seen plain f =
     happened_then [] _ s f.mid t (happened_left s f.mid (leaves_http s f.mid f.one.0 f.first f.one.2)) (messages_happened site c f.mid t f.second f.other)
 other_happened site (what.Ended c) bytes s t seen plain f = happened_left s t (leaves_http s t f.0 seen f.2)
 other_happened site (what.Datagram from size) bytes s t seen plain f = absurd plain
-other_happened site what.Tick bytes s t seen plain f = polls_happened (events_of site) s t seen f
+other_happened site what.Tick bytes s t seen plain f = polls_happened (events_of site.things) s t seen f
 other_happened site what.Stop bytes s t seen plain f = happened_left s t (leaves_shown s t [] seen f)
 
 -- ---- a datagram

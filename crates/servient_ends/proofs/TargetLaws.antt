@@ -17,14 +17,14 @@ use Rattle.thing_site.specs.declared.place.Resource.TheVariants.{Description as 
 use Rattle.thing_state.specs.State.{State as ThingState, Invocation, invocation_named, silent}
 use Rattle.thing_state.specs.Places.{where_stands, place_of, target_of}
 use Rattle.thing_core.proofs.Handed.{came_of, made_of, named_has}
-use Rattle.thing_core.proofs.SlotLaws.{SiteHas}
+use Rattle.thing_core.proofs.SlotLaws.{ThingsHave}
 use Rattle.coap_opts.specs.Reading.{AskSeen}
 use Rattle.servient_core.specs.Machine.{observed_target}
 use Rattle.servient_ends.proofs.LastValues.{has_target}
 
 -- something that may emit has this slot
 abbrev pub IsTarget : Site → ℕ → Type 0
-IsTarget site n = has_target n (map silent (emitters_of site)) ≡ true
+IsTarget site n = has_target n (map silent (emitters_of site.things)) ≡ true
 
 abbrev IsAmong : List Placed → ℕ → Type 0
 IsAmong ps n = has_target n (map silent ps) ≡ true
@@ -54,9 +54,9 @@ weaker : (P Q : Placed → Type 0) → ((p : Placed) → P p → Q p) → (ps : 
 weaker P Q each [] all = tt
 weaker P Q each (p ∷ ps) all = (each p all.0, weaker P Q each ps all.1)
 
-site_weaker : (P Q : Placed → Type 0) → ((p : Placed) → P p → Q p) → (site : Site) → SiteHas P site → SiteHas Q site
-site_weaker P Q each [] all = tt
-site_weaker P Q each (t ∷ site) all = (weaker P Q each t.affordances all.0, site_weaker P Q each site all.1)
+things_weaker : (P Q : Placed → Type 0) → ((p : Placed) → P p → Q p) → (things : List ExposedThing) → ThingsHave P things → ThingsHave Q things
+things_weaker P Q each [] all = tt
+things_weaker P Q each (t ∷ things) all = (weaker P Q each t.affordances all.0, things_weaker P Q each things all.1)
 
 same_number : (n : ℕ) → (n == n) ≡ true
 same_number n = grind (arith, nat_tests)
@@ -75,13 +75,13 @@ own (p ∷ ps) = (
     by_test n true among = one_more p (filter is_emitter ps) n among
     by_test n false among = among
 
-own_of_site : (site : Site) → SiteHas (λ p. is_emitter p ≡ true → IsTarget site p.slot) site
-own_of_site [] = tt
-own_of_site (t ∷ site) = (
-  weaker (λ x. is_emitter x ≡ true → IsAmong (emitters_of_thing t) x.slot) (λ x. is_emitter x ≡ true → IsTarget (t ∷ site) x.slot)
-      (λ x below emits. more_after (emitters_of_thing t) (emitters_of site) x.slot (below emits)) t.affordances (own t.affordances),
-  site_weaker (λ x. is_emitter x ≡ true → IsTarget site x.slot) (λ x. is_emitter x ≡ true → IsTarget (t ∷ site) x.slot)
-      (λ x below emits. more_before (emitters_of_thing t) (emitters_of site) x.slot (below emits)) site (own_of_site site),
+own_of_things : (things : List ExposedThing) → ThingsHave (λ p. is_emitter p ≡ true → IsAmong (emitters_of things) p.slot) things
+own_of_things [] = tt
+own_of_things (t ∷ things) = (
+  weaker (λ x. is_emitter x ≡ true → IsAmong (emitters_of_thing t) x.slot) (λ x. is_emitter x ≡ true → IsAmong (emitters_of (t ∷ things)) x.slot)
+      (λ x below emits. more_after (emitters_of_thing t) (emitters_of things) x.slot (below emits)) t.affordances (own t.affordances),
+  things_weaker (λ x. is_emitter x ≡ true → IsAmong (emitters_of things) x.slot) (λ x. is_emitter x ≡ true → IsAmong (emitters_of (t ∷ things)) x.slot)
+      (λ x below emits. more_before (emitters_of_thing t) (emitters_of things) x.slot (below emits)) things (own_of_things things),
 )
 
 -- ---- what is found
@@ -106,7 +106,7 @@ named_kind k name (q ∷ ps) p e = by_test (named_kind k name ps p) (is_kind k q
         subst (λ (x : Placed). x.affordance.kind ≡ k) (same_Some q p found) (same_kind k q.affordance.kind (both_true (is_kind k q.affordance.kind) (bytes_eq name q.affordance.name) is))
     by_test further false isnt found = further found
 
-thing_has : (P : Placed → Type 0) (segment : List ℕ) (site : Site) (thing : ExposedThing) → SiteHas P site → thing_named segment site ≡ Some thing → AllByRecursion P thing.affordances
+thing_has : (P : Placed → Type 0) (segment : List ℕ) (site : List ExposedThing) (thing : ExposedThing) → ThingsHave P site → thing_named segment site ≡ Some thing → AllByRecursion P thing.affordances
 thing_has P segment [] thing all e = absurd cc
 thing_has P segment (t ∷ site) thing all e = by_test (thing_has P segment site thing all.1) (bytes_eq segment t.segment) e
   where
@@ -123,11 +123,11 @@ found : (k : Kind) (path : List (List ℕ)) (site : Site) (p : Placed) → affor
 found k path site p e =
     let of_thing = came_of (λ (thing : ExposedThing). option_and_then (λ (name : List ℕ). affordance_named k name thing.affordances) (slice_get path 2)) (thing_in path site) p e in
     let of_name = came_of (λ (name : List ℕ). affordance_named k name of_thing.0.affordances) (slice_get path 2) p of_thing.2 in
-    let of_segment = came_of (λ (segment : List ℕ). thing_named segment site) (slice_get path 0) of_thing.0 of_thing.1 in
+    let of_segment = came_of (λ (segment : List ℕ). thing_named segment site.things) (slice_get path 0) of_thing.0 of_thing.1 in
     record {
       kind = named_kind k of_name.0 of_thing.0.affordances p of_name.2;
       target = named_has (λ x. is_emitter x ≡ true → IsTarget site x.slot) k of_name.0 of_thing.0.affordances p
-          (thing_has (λ x. is_emitter x ≡ true → IsTarget site x.slot) of_segment.0 site of_thing.0 (own_of_site site) of_segment.2) of_name.2;
+          (thing_has (λ x. is_emitter x ≡ true → IsTarget site x.slot) of_segment.0 site.things of_thing.0 (own_of_things site.things) of_segment.2) of_name.2;
     }
 
 observable_emits : (p : Placed) → p.affordance.kind ≡ kind.Property → p.affordance.observable ≡ true → is_emitter p ≡ true
@@ -158,7 +158,7 @@ observable_none p place n e some = by_test p.affordance.observable e
     by_test false is = cc
 
 place_target : (form : RouteKind) (path : List (List ℕ)) (site : Site) (place : Resource) (n : ℕ) → place_at form path site ≡ Some place → target_at (Some place) ≡ Some n → IsTarget site n
-place_target route.Root path site place n e some = let of = made_of description (slice_get site 0) place e in none_here site place (description of.0) n of.2 refl some
+place_target route.Root path site place n e some = let of = made_of description (slice_get site.things 0) place e in none_here site place (description of.0) n of.2 refl some
 place_target route.Thing path site place n e some = let of = made_of description (thing_in path site) place e in none_here site place (description of.0) n of.2 refl some
 place_target route.All path site place n e some = let of = made_of all_properties (thing_in path site) place e in none_here site place (all_properties of.0) n of.2 refl some
 place_target route.Property path site place n e some =

@@ -162,7 +162,7 @@ used_plain : (slot : ℕ) (what : CallKind) (c : Answer) (done : Done) (s m u : 
     → u.last ≡ m.last → u.next_invocation ≡ m.next_invocation + 1 → u.turns ≡ m.turns → Becomes u [] b t → IsPlain done s t
 used_plain slot what c done s m u a b t none k last ids turns x = record {
   nothing = none;
-  emits = id_used s m t k.0 (ap (λ (y : State). y.last) k.1.next) (ap (λ (y : State). y.next_invocation) k.1.next) (ap (λ (y : State). y.turns) k.1.next)
+  emits = id_used s m t (let few = k.0 in omega arith) (ap (λ (y : State). y.last) k.1.next) (ap (λ (y : State). y.next_invocation) k.1.next) (ap (λ (y : State). y.turns) k.1.next)
       (ap (λ (y : State). y.last) x.next ∙ last) (ap (λ (y : State). y.next_invocation) x.next ∙ ids) (ap (λ (y : State). y.turns) x.next ∙ turns);
 }
 

@@ -268,7 +268,7 @@ holds_at_start : (site : Site) (exchanges : ℕ) (epoch : Option ℕ) (emitted :
 holds_at_start site exchanges epoch emitted s none same = subst (λ (es : List Emission). HoldsOf site es s) (sym none) (subst (HoldsOf site []) (sym same) (record {
   counted = record { ids = omega arith; turns = omega arith };
   has = λ target is. is;
-  says = say_nothing (emitters_of site);
+  says = say_nothing (emitters_of site.things);
   watches = watches_at_start site exchanges epoch;
 }))
 

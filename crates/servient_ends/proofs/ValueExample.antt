@@ -41,12 +41,12 @@ use Rattle.servient_trace.specs.Trace.{Sighting, at_network, at_handler}
 use Rattle.servient_core.specs.Machine.{Site, State, start, EventAndStep, notification_bytes}
 use Rattle.servient_world.specs.World.{client_place, server_place, copy_of, reply_to, notification_for, other, WorldState, acts_for, id_used, latest, end_by, taken_by, with_sent, ClientAsks, sends_ask}
 use Rattle.servient_ends.specs.Ends.{EndsState, act_of, back_of, emitted_by_datagram, emitted_by, notifications_in, with_emissions, with_notifications, event_at, ServientDoes, Arrives, to_client, to_servient, TakesAll}
-use Rattle.servient_ends.specs.Examples.{beside, alarm, thing_with_alarm, observe_alarm, observes_and_is_told, SomeValueIsTaken}
+use Rattle.servient_ends.specs.Examples.{of_things, beside, alarm, thing_with_alarm, observe_alarm, observes_and_is_told, SomeValueIsTaken}
 use Rattle.servient_ends.proofs.ExampleLaws.{fresh, is_fresh, starts}
 use Rattle.servient_ends.proofs.ReadExample.{first_token, whole}
 
 abbrev things : Site
-things = thing_with_alarm ∷ []
+things = of_things (thing_with_alarm ∷ [])
 
 -- ---- the datagrams
 

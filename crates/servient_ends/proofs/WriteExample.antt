@@ -53,13 +53,13 @@ use Rattle.servient_world.specs.World.{client_place, server_place, copy_of, repl
 use Rattle.servient_world.specs.Laws.{Asked}
 use Rattle.servient_world.specs.Rows.{RowAsk, AreWrites, AreInOrder, NoOther, IsOfCodeAndPath}
 use Rattle.servient_ends.specs.Ends.{EndsState, act_of, back_of, emitted_by_datagram, notifications_in, with_emissions, with_notifications, event_at, Arrives, to_client, to_servient, TakesAll}
-use Rattle.servient_ends.specs.Examples.{beside, level, thing_with_level, level_path, put_first, put_last, writes_in_two, first_write, last_write, SomeWritesAct}
+use Rattle.servient_ends.specs.Examples.{of_things, beside, level, thing_with_level, level_path, put_first, put_last, writes_in_two, first_write, last_write, SomeWritesAct}
 use Rattle.servient_ends.proofs.ExampleLaws.{fresh, is_fresh, starts}
 use Rattle.servient_ends.proofs.ReadExample.{first_token, second_token, whole, short}
 use Rattle.servient_ends.proofs.AtOnce as once
 
 abbrev things : Site
-things = thing_with_level ∷ []
+things = of_things (thing_with_level ∷ [])
 
 -- ---- the datagrams
 

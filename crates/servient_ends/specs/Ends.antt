@@ -100,7 +100,7 @@ emitted_by site (what.Opened c) bytes s seen t f = []
 emitted_by site (what.Bytes c size) bytes s seen t f = along (TakesNextMessage site c) (λ s. IsDry c s.http) (emitted_by_next site c) f.mid f.second t f.other
 emitted_by site (what.Ended c) bytes s seen t f = []
 emitted_by site (what.Datagram from size) bytes s seen t f = emitted_by_datagram site from bytes s seen t f
-emitted_by site what.Tick bytes s seen t f = emitted_by_polls (events_of site) s seen t f
+emitted_by site what.Tick bytes s seen t f = emitted_by_polls (events_of site.things) s seen t f
 emitted_by site what.Stop bytes s seen t f = []
 
 -- the notifications that were sent at the end of an event, in order

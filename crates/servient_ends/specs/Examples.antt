@@ -13,6 +13,10 @@ use Rattle.servient_core.specs.Machine.{Site, start}
 use Rattle.servient_world.specs.Rows.{RowAsk, AreInOrder, NoOther, IsOfPath, AreReads, IsOfCodeAndPath, AreWrites}
 use Rattle.servient_ends.specs.Ends.{EndsState, IsBeginning, Turn, asks_next, delivers, happens, TakesAll}
 
+-- a site of these Things, which leaves no versions out
+abbrev pub of_things : List ExposedThing → Site
+of_things things = record { things = things; left_out = 0 }
+
 -- a new client beside a servient of these Things, in which 16 exchanges may live, at the moment 0
 abbrev pub beside : Site → ClientState → EndsState
 beside site client = record {
@@ -43,7 +47,7 @@ ask_that_comes = asks_next get_root ∷ delivers 0 ∷ []
 abbrev pub SomeServientActs : Type 0
 SomeServientActs =
     (client : ClientState) → IsNew 0 client
-    → IsBeginning [] 0 16 (beside [] client) × (q : EndsState) × TakesAll [] ask_that_comes (beside [] client) q × (length q.world.acts ≡ 1)
+    → IsBeginning (of_things []) 0 16 (beside (of_things []) client) × (q : EndsState) × TakesAll (of_things []) ask_that_comes (beside (of_things []) client) q × (length q.world.acts ≡ 1)
 
 -- ---- a row of block-wise reads
 
@@ -90,8 +94,8 @@ last_read = read_of 1 false (codes "ng\";ct=432")
 abbrev pub SomeReadsEnd : Type 0
 SomeReadsEnd =
     (client : ClientState) → IsNew 0 client
-    → IsBeginning (plain_thing ∷ []) 0 16 (beside (plain_thing ∷ []) client)
-    × (q : EndsState) × TakesAll (plain_thing ∷ []) reads_in_two (beside (plain_thing ∷ []) client) q
+    → IsBeginning (of_things (plain_thing ∷ [])) 0 16 (beside (of_things (plain_thing ∷ [])) client)
+    × (q : EndsState) × TakesAll (of_things (plain_thing ∷ [])) reads_in_two (beside (of_things (plain_thing ∷ [])) client) q
     × AreReads q.world.asks q.world.ends links_path 0 0 (first_read ∷ last_read ∷ [])
     × AreInOrder (first_read ∷ last_read ∷ [])
     × NoOther q.world.asks (IsOfPath links_path) first_read (last_read ∷ [])
@@ -136,8 +140,8 @@ observes_and_is_told = asks_next observe_alarm ∷ delivers 0 ∷ delivers 1 ∷
 abbrev pub SomeValueIsTaken : Type 0
 SomeValueIsTaken =
     (client : ClientState) → IsNew 0 client
-    → IsBeginning (thing_with_alarm ∷ []) 0 16 (beside (thing_with_alarm ∷ []) client)
-    × (q : EndsState) × TakesAll (thing_with_alarm ∷ []) observes_and_is_told (beside (thing_with_alarm ∷ []) client) q
+    → IsBeginning (of_things (thing_with_alarm ∷ [])) 0 16 (beside (of_things (thing_with_alarm ∷ [])) client)
+    × (q : EndsState) × TakesAll (of_things (thing_with_alarm ∷ [])) observes_and_is_told (beside (of_things (thing_with_alarm ∷ [])) client) q
     × (q.world.emitted ≡ record { target = 0; text = codes "true" } ∷ [])
     × Contains q.world.taken (record { ask = 0; place = 1; payload = codes "true" })
 
@@ -187,8 +191,8 @@ last_write = record { ask = 1; body = codes "true]"; code = coap 2 04; block = N
 abbrev pub SomeWritesAct : Type 0
 SomeWritesAct =
     (client : ClientState) → IsNew 0 client
-    → IsBeginning (thing_with_level ∷ []) 0 16 (beside (thing_with_level ∷ []) client)
-    × (q : EndsState) × TakesAll (thing_with_level ∷ []) writes_in_two (beside (thing_with_level ∷ []) client) q
+    → IsBeginning (of_things (thing_with_level ∷ [])) 0 16 (beside (of_things (thing_with_level ∷ [])) client)
+    × (q : EndsState) × TakesAll (of_things (thing_with_level ∷ [])) writes_in_two (beside (of_things (thing_with_level ∷ [])) client) q
     × AreWrites q.world.asks q.world.ends PUT level_path 0 0 (first_write ∷ last_write ∷ [])
     × AreInOrder (first_write ∷ last_write ∷ [])
     × NoOther q.world.asks (IsOfCodeAndPath PUT level_path) first_write (last_write ∷ [])

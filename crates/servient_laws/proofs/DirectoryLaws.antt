@@ -122,7 +122,7 @@ event_leads epoch site (what.Bytes c size) bytes s t seen w =
     (messages_lead epoch site c w.mid t w.second w.other)
 event_leads epoch site (what.Ended c) bytes s t seen w = leads_left epoch s t (same_as s (record s { http = w.0 }) t w.2.next refl refl)
 event_leads epoch site (what.Datagram from size) bytes s t seen w = leads_left epoch s t (datagram_same site from bytes s t seen w)
-event_leads epoch site what.Tick bytes s t seen w = leads_left epoch s t (all_polls_same (events_of site) s t seen w)
+event_leads epoch site what.Tick bytes s t seen w = leads_left epoch s t (all_polls_same (events_of site.things) s t seen w)
 event_leads epoch site what.Stop bytes s t seen stays = leads_left epoch s t (same_state s t stays.next)
 
 abbrev at_event : State → EventWithBytes → State

@@ -10,7 +10,6 @@ use Rattle.wot_terms.specs.declared.op.Op.{Op}
 use Rattle.wot_forms.specs.declared.scheme.Scheme.{Scheme}
 use Rattle.wot_consumer.specs.declared.chosen.Chosen.{Chosen}
 use Rattle.wot_consumer.specs.Discovery.{links_of}
-use Rattle.thing_site.specs.Site.{Slots}
 use Rattle.thing_site.specs.Exposing.{kinds_of}
 use Rattle.tm_parts.specs.Library.{Models}
 use Rattle.command_words.specs.declared.command.Command.{Command}
@@ -218,13 +217,13 @@ table_tells held name kinds plan things seen status (is_tabled a e) = ended held
 table_tells held name kinds plan things seen status (is_tabled_with fault a b e) = ended held seen status 4 e.1 (omega arith, omega arith)
 table_tells held name kinds plan things seen status (table_memory e) = ended held seen status 9 e.1 (omega arith, omega arith)
 
-expose_tells : (held : Option (List HeldFile)) (name : List ℕ) (kinds : List Kind) (slots : Slots) (things : List (List ℕ × Json)) → Telling held (Exposes name kinds slots things)
-expose_tells held name kinds slots things seen status (is_exposed a b is) = went held seen status _ is
-expose_tells held name kinds slots things seen status (is_misfit fault a b e) = ended held seen status 4 e.1 (omega arith, omega arith)
-expose_tells held name kinds slots things seen status (expose_memory e) = ended held seen status 9 e.1 (omega arith, omega arith)
+expose_tells : (held : Option (List HeldFile)) (name : List ℕ) (kinds : List Kind) (plan : Plan) (things : List (List ℕ × Json)) → Telling held (Exposes name kinds plan things)
+expose_tells held name kinds plan things seen status (is_exposed a b is) = went held seen status _ is
+expose_tells held name kinds plan things seen status (is_misfit fault a b e) = ended held seen status 4 e.1 (omega arith, omega arith)
+expose_tells held name kinds plan things seen status (expose_memory e) = ended held seen status 9 e.1 (omega arith, omega arith)
 
 open_tells : (held : Option (List HeldFile)) (name : List ℕ) (kinds : List Kind) (p : Planned) → Telling held (Opens name kinds p)
-open_tells held name kinds p = then_tells held (Derives p) (Exposes name kinds p.plan.slots) (derive_tells held p) (expose_tells held name kinds p.plan.slots)
+open_tells held name kinds p = then_tells held (Derives p) (Exposes name kinds p.plan) (derive_tells held p) (expose_tells held name kinds p.plan)
 
 judge_tells : (held : Option (List HeldFile)) (tree : Tree) → Telling held (Judges tree)
 judge_tells held tree seen status (is_valid a e) = ended held seen status 0 e.1 (omega arith, omega arith)

@@ -1,7 +1,7 @@
 -- The affordances that an act calls are of the act's kind, and what is handed in to them is fit for them.
 use Rattle.std.proofs.Common.{◌≡◌, ℕ, List, [], ◌∷◌, ◌++◌, Bool, true, false, cond, refl, subst}
 use Rattle.std.specs.Prelude.{Some, None, option_and_then, slice_get, ◌&&◌, Contains}
-use Rattle.std.specs.List.{AllByRecursion}
+use Rattle.std.specs.List.{AllByRecursion, flat_map}
 use Rattle.std.specs.Str.{bytes_eq}
 use Rattle.std.proofs.lemmas.Option.{same_Some}
 use Rattle.std.proofs.lemmas.List.Elements.{All-contains_itself, recursion_from_All}
@@ -23,7 +23,7 @@ use Rattle.thing_state.specs.Places.{where_stands}
 use Rattle.thing_state.specs.State.{Invocation, invocation_named}
 use Rattle.thing_core.specs.Refusals.{Asked, act_asked, place_asked}
 use Rattle.thing_core.proofs.Handed.{came_of, made_of}
-use Rattle.thing_core.proofs.SlotLaws.{SiteHas}
+use Rattle.thing_core.proofs.SlotLaws.{SiteHas, ThingsHave}
 use Rattle.servient_laws.specs.Calls.{affordances_of}
 
 -- ---- all affordances of a site
@@ -32,14 +32,15 @@ parted : (P : Placed → Type 0) (ps qs : List Placed) → AllByRecursion P (ps 
 parted P [] qs all = (tt, all)
 parted P (p ∷ ps) qs all = let rest = parted P ps qs all.1 in ((all.0, rest.0), rest.1)
 
-site_has : (P : Placed → Type 0) (site : Site) → AllByRecursion P (affordances_of site) → SiteHas P site
-site_has P [] all = tt
-site_has P (t ∷ site) all = let both = parted P t.affordances (affordances_of site) all in (both.0, site_has P site both.1)
+things_have : (P : Placed → Type 0) (things : List ExposedThing) → AllByRecursion P (flat_map (λ (t : ExposedThing). t.affordances) things) → ThingsHave P things
+things_have P [] all = tt
+things_have P (t ∷ things) all =
+    let both = parted P t.affordances (flat_map (λ (u : ExposedThing). u.affordances) things) all in (both.0, things_have P things both.1)
 
 -- each is one of them
 pub site_has_its_own : (site : Site) → SiteHas (Contains (affordances_of site)) site
 site_has_its_own site =
-    site_has (Contains (affordances_of site)) site (recursion_from_All (Contains (affordances_of site)) (affordances_of site) (All-contains_itself (affordances_of site)))
+    things_have (Contains (affordances_of site)) site.things (recursion_from_All (Contains (affordances_of site)) (affordances_of site) (All-contains_itself (affordances_of site)))
 
 -- ---- kinds
 
@@ -92,7 +93,7 @@ observable_kind p place e = by_test p.affordance.observable e
     by_test false is = absurd cc
 
 place_kind : (form : RouteKind) (path : List (List ℕ)) (site : Site) (place : Resource) → place_at form path site ≡ Some place → IsPlaceOfKind place
-place_kind route.Root path site place e = let of = made_of description (slice_get site 0) place e in subst (λ (x : Resource). IsPlaceOfKind x) of.2 tt
+place_kind route.Root path site place e = let of = made_of description (slice_get site.things 0) place e in subst (λ (x : Resource). IsPlaceOfKind x) of.2 tt
 place_kind route.Thing path site place e = let of = made_of description (thing_in path site) place e in subst (λ (x : Resource). IsPlaceOfKind x) of.2 tt
 place_kind route.All path site place e = let of = made_of all_properties (thing_in path site) place e in subst (λ (x : Resource). IsPlaceOfKind x) of.2 tt
 place_kind route.Property path site place e =

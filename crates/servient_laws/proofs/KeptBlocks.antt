@@ -169,7 +169,7 @@ follows_same site (what.Bytes c size) bytes s t seen w =
 follows_same site (what.Ended c) bytes s t seen on = inl (http_same s t on.0 on.2.next)
 follows_same site (what.Datagram from size) bytes s t seen (inl long) = inl (same_state s t long.1.next)
 follows_same site (what.Datagram from size) bytes s t seen (inr heard) = inr (from, size, refl, heard.0)
-follows_same site what.Tick bytes s t seen each = inl (each_same PollsAndDelivers polls_same (events_of site) s t seen each)
+follows_same site what.Tick bytes s t seen each = inl (each_same PollsAndDelivers polls_same (events_of site.things) s t seen each)
 follows_same site what.Stop bytes s t seen stays = inl (same_state s t stays.next)
 
 -- so does an event that brings nothing that is looked at

@@ -8,9 +8,9 @@ use Rattle.coap_msg.specs.declared.endpoint.Endpoint.{Endpoint}
 use Rattle.wot_terms.specs.declared.kind.Kind.TheVariants as kind
 use Rattle.thing_handler.specs.Turns.{HandlerCall}
 use Rattle.thing_ops.specs.Requests.{RequestSeen}
-use Rattle.thing_site.specs.Site.{Placed, Site, events_of, those_of}
+use Rattle.thing_site.specs.Site.{Placed, ExposedThing, Site, events_of, those_of}
 use Rattle.thing_core.specs.Thing.{Done}
-use Rattle.thing_core.proofs.SlotLaws.{SiteHas}
+use Rattle.thing_core.proofs.SlotLaws.{ThingsHave}
 use Rattle.coap_bind.specs.Server.{Heard, ignored, answered_at_once, asked}
 use Rattle.http_bind.specs.Streams.{Taken, asks, wants_continue, is_faulty, interrupts, IsDry}
 use Rattle.servient_outside.specs.declared.net.What.{What}
@@ -93,7 +93,7 @@ joined : (P : Placed → Type 0) (ps qs : List Placed) → AllByRecursion P ps �
 joined P [] qs one other = other
 joined P (p ∷ ps) qs one other = (one.0, joined P ps qs one.1 other)
 
-events_are : (site things : Site) → SiteHas (Contains (affordances_of site)) things → AllByRecursion (IsOne site kind.Event) (events_of things)
+events_are : (site : Site) (things : List ExposedThing) → ThingsHave (Contains (affordances_of site)) things → AllByRecursion (IsOne site kind.Event) (events_of things)
 events_are site [] all = tt
 events_are site (t ∷ things) all =
     joined (IsOne site kind.Event) (those_of kind.Event t) (events_of things) (of_one_kind site kind.Event t.affordances all.0) (events_are site things all.1)
@@ -116,7 +116,7 @@ follows_fit site (what.Opened c) bytes s t seen on = fit_none site seen (ap call
 follows_fit site (what.Bytes c size) bytes s t seen on = piece_fit site c bytes s t seen on
 follows_fit site (what.Ended c) bytes s t seen on = fit_none site seen (ap calls_in on.2.saw)
 follows_fit site (what.Datagram from size) bytes s t seen on = datagram_fit site from bytes s t seen on
-follows_fit site what.Tick bytes s t seen on = polls_fit site (events_of site) s t seen (events_are site site (site_has_its_own site)) on
+follows_fit site what.Tick bytes s t seen on = polls_fit site (events_of site.things) s t seen (events_are site site.things (site_has_its_own site)) on
 follows_fit site what.Stop bytes s t seen stays = fit_none site seen (ap calls_in stays.saw)
 
 event_fit : (site : Site) (e : EventWithBytes) (s t : State) (seen : List Sighting) → EventAndStep site e s seen t → AreFit site seen

@@ -152,7 +152,7 @@ follows_tasks site (what.Opened c) bytes s t seen on = becomes site s (record s 
 follows_tasks site (what.Bytes c size) bytes s t seen on = piece_tasks site c bytes s t seen on
 follows_tasks site (what.Ended c) bytes s t seen on = becomes site s (record s { http = on.0 }) t [] seen on.2 refl refl
 follows_tasks site (what.Datagram from size) bytes s t seen on = datagram_tasks site from bytes s t seen on
-follows_tasks site what.Tick bytes s t seen on = polls_tasks site (events_of site) s t seen on
+follows_tasks site what.Tick bytes s t seen on = polls_tasks site (events_of site.things) s t seen on
 follows_tasks site what.Stop bytes s t seen stays = becomes site s s t [] seen stays refl refl
 
 event_tasks : (site : Site) (e : EventWithBytes) (s t : State) (seen : List Sighting) → EventAndStep site e s seen t → Tasks site (polled_by site e.event.what) s.thing seen t.thing

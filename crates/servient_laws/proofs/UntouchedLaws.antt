@@ -110,10 +110,10 @@ tabled_unseen name kinds plan things seen o (is_tabled none end) = ap showings_i
 tabled_unseen name kinds plan things seen o (is_tabled_with fault isnt first end) = ap showings_in end.0
 tabled_unseen name kinds plan things seen o (table_memory end) = ap showings_in end.0
 
-exposed_unseen : (name : List ℕ) (kinds : List Kind) (slots : _) (things : _) → Quiet (Exposes name kinds slots things)
-exposed_unseen name kinds slots things seen o (is_exposed none saw goes) = ap showings_in saw
-exposed_unseen name kinds slots things seen o (is_misfit fault isnt first end) = ap showings_in end.0
-exposed_unseen name kinds slots things seen o (expose_memory end) = ap showings_in end.0
+exposed_unseen : (name : List ℕ) (kinds : List Kind) (plan : _) (things : _) → Quiet (Exposes name kinds plan things)
+exposed_unseen name kinds plan things seen o (is_exposed none saw goes) = ap showings_in saw
+exposed_unseen name kinds plan things seen o (is_misfit fault isnt first end) = ap showings_in end.0
+exposed_unseen name kinds plan things seen o (expose_memory end) = ap showings_in end.0
 
 judged_unseen : (tree : _) → Quiet (Judges tree)
 judged_unseen tree seen o (is_valid none end) = ap showings_in end.0
@@ -223,7 +223,7 @@ serve_settles : (held : Option (List HeldFile)) (kinds : List Kind) (plan : List
 serve_settles held kinds plan budget idle =
     after_unseen (ReadsPlanned held plan) (ServesPlanned plan kinds budget idle) (planned_unseen held plan)
     (λ p. after_unseen (Opens plan kinds p) (λ site. AndThen (Listens (place_of p.plan (idle * 1000))) (λ _. ServesBy budget p.plan.exchanges p.plan.epoch site))
-    (then_unseen (Derives p) (Exposes plan kinds p.plan.slots) (derived_unseen p) (exposed_unseen plan kinds p.plan.slots))
+    (then_unseen (Derives p) (Exposes plan kinds p.plan) (derived_unseen p) (exposed_unseen plan kinds p.plan))
     (λ site. listens_then (place_of p.plan (idle * 1000)) budget p.plan.exchanges p.plan.epoch site))
 
 abbrev ends_as : ℕ → Outcome (Unit {0})

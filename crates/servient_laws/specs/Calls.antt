@@ -40,7 +40,7 @@ IsCallOf p call.Poll = p.affordance.kind ≡ kind.Event
 
 -- the affordances of all Things
 abbrev pub affordances_of : Site → List Placed
-affordances_of site = flat_map (λ (t : ExposedThing). t.affordances) site
+affordances_of site = flat_map (λ (t : ExposedThing). t.affordances) site.things
 
 -- A call is made of the handler of one of them, and is one of that affordance. Of a call for which a handler was out of
 -- memory the slot alone is seen.

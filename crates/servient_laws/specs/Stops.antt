@@ -37,7 +37,7 @@ polled_in (acts q done) = None
 
 -- the affordances that are polled when this comes: by a tick all event affordances, in order, each once
 abbrev pub polled_by : Site → What → List Placed
-polled_by site what.Tick = events_of site
+polled_by site what.Tick = events_of site.things
 polled_by site other = []
 
 -- While these events are taken the Things do these tasks, one after another, and nothing else is called; what is polled
@@ -52,7 +52,7 @@ pub record DoesTasks (site : Site) (took : List EventWithBytes) (s : ThingState)
 -- A poll is left out: it makes no turn, though the run has a number left for one. An operation stops: its outcome is
 -- that it was out of memory, and the last that is seen of it is that so was the handler which was to be called next.
 abbrev pub StopsAt : ℕ → Task → ThingState → List HandlerCall → Type 0
-StopsAt slot (polls p emissions) s seen = (p.slot ≡ slot) × (s.turns < most_turns) × (turns_in seen ≡ [])
+StopsAt slot (polls p emissions) s seen = (p.slot ≡ slot) × (s.turns < most_turns s.left_out) × (turns_in seen ≡ [])
 StopsAt slot (acts q done) s seen = (done.outcome ≡ outcome.Memory) × (before : List HandlerCall) × (seen ≡ before ++ missed slot ∷ [])
 
 -- it is done, and is one that stops there, or isn't counted

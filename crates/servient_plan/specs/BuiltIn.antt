@@ -38,5 +38,6 @@ built_in_plan = record {
   slots = built_in_slots;
   exchanges = 1024;
   epoch = None;
+  versions = 0;
   unknown = [];
 }

@@ -135,13 +135,22 @@ abbrev pub epoch_in : Option Json → Option (Option ℕ)
 epoch_in None = Some None
 epoch_in (Some v) = option_map (λ epoch. Some epoch) (number_within 0 last_epoch (Some v))
 
+-- The number up to which versions of properties are left out, since an earlier run may have sent them as tags: up to
+-- 4,000,000,000, and 0 where the member is absent.
+abbrev pub last_left_out : ℕ
+last_left_out = 4_000_000_000
+
+abbrev pub versions_in : Option Json → Option ℕ
+versions_in None = Some 0
+versions_in (Some v) = number_within 0 last_left_out (Some v)
+
 -- ---- the members that a plan has
 
 -- Other members are ignored, and so a name that is misspelt; `unknown_in` gives their names, in the order of the object.
 abbrev pub plan_members : List (List ℕ)
 plan_members =
     codes "name" ∷ codes "id" ∷ codes "http" ∷ codes "coap" ∷ codes "model" ∷ codes "models" ∷ codes "bindings" ∷ codes "optional"
-    ∷ codes "instance" ∷ codes "slots" ∷ codes "exchanges" ∷ codes "epoch" ∷ []
+    ∷ codes "instance" ∷ codes "slots" ∷ codes "exchanges" ∷ codes "epoch" ∷ codes "versions" ∷ []
 
 abbrev pub is_unknown : List ℕ → Bool
 is_unknown name = not (list_any (λ other. bytes_eq name other) plan_members)
@@ -193,6 +202,7 @@ plan_in ms =
     then_row (member_row (codes "slots") (entries_in slot_entry) ms) (λ slots.
     then_row (member_row (codes "exchanges") exchanges_in ms) (λ exchanges.
     then_row (member_row (codes "epoch") epoch_in ms) (λ epoch.
+    then_row (member_row (codes "versions") versions_in ms) (λ versions.
     Ok (record {
       frame = record { segment = names.segment; id = names.id; bases = names.bases; instance = instance };
       root = names.root;
@@ -202,8 +212,9 @@ plan_in ms =
       slots = slots;
       exchanges = exchanges;
       epoch = epoch;
+      versions = versions;
       unknown = unknown_in ms;
-    })))))))
+    }))))))))
 
 -- The plan that a value is, or the pointer to what it refuses first: the empty one where it is no object.
 abbrev pub is_object : Json → Bool

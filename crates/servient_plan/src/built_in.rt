@@ -32,6 +32,7 @@ impl Plan {
             slots: slots(alloc)?,
             exchanges: 1024,
             epoch: None,
+            versions: 0,
             unknown: UnknownMembers::new(alloc),
         })
     }

@@ -11,7 +11,7 @@ use crate::texts::{TextRow, base_point};
 use crate::unknown::unknown_in;
 use crate::values::{
     bindings_row, choices_row, epoch_row, exchanges_row, instance_row, models_row, slots_row,
-    text_row,
+    text_row, versions_row,
 };
 use servient_outside::Place;
 use std::alloc::{AllocError, Global};
@@ -42,6 +42,8 @@ pub struct Plan {
     pub exchanges: u32,
     /// The moment at which the clock began, in milliseconds after the start of 1970, where the plan says so.
     pub epoch: Option<u64>,
+    /// Versions of properties up to this one are left out, since an earlier run may have sent them as tags.
+    pub versions: u32,
     /// The names of the members of the object that no plan has.
     pub unknown: UnknownMembers,
 }
@@ -200,6 +202,7 @@ impl Plan {
         let slots = slots_row(alloc, tree)?;
         let exchanges = exchanges_row(alloc, tree)?;
         let epoch = epoch_row(alloc, tree)?;
+        let versions = versions_row(alloc, tree)?;
         let unknown = unknown_in(alloc, tree)?;
         let frame = Frame {
             segment: names.segment,
@@ -216,6 +219,7 @@ impl Plan {
             slots,
             exchanges,
             epoch,
+            versions,
             unknown,
         })
     }

@@ -12,7 +12,7 @@ use std::alloc::Global;
 use wot_json::{NoMemory, Text, Tree};
 
 /// The members that a plan has. A member that comes later joins them.
-const MEMBERS: [&str; 12] = [
+const MEMBERS: [&str; 13] = [
     "name",
     "id",
     "http",
@@ -25,6 +25,7 @@ const MEMBERS: [&str; 12] = [
     "slots",
     "exchanges",
     "epoch",
+    "versions",
 ];
 
 /// The names of the members of a tree that no plan has, in their order.

@@ -30,6 +30,9 @@ const USUAL_EXCHANGES: u32 = 1024;
 /// The latest beginning of the clock: the last millisecond of the year 9999.
 const LAST_EPOCH: u64 = 253_402_300_799_999;
 
+/// The greatest number up to which versions may be left out.
+const LAST_LEFT_OUT: u32 = 4_000_000_000;
+
 /// The text that a value is.
 fn text_in(value: Option<&Tree>) -> Option<&str>
     ensures { option_map (λ text. text.now) result ≡ spec.text_in (option_map (λ t. json_of t.now) value.entry) }
@@ -375,4 +378,21 @@ pub(crate) fn epoch_row(alloc: Global, tree: &Tree) -> Result<Option<u64>, PlanF
     ensures early { IfOk result (λ epoch. IfSome epoch (λ e. e ≤ spec.last_epoch)) }
 {
     row(alloc, "epoch", epoch_in(tree.member("epoch")))
+}
+
+/// The number up to which versions are left out, which may be absent.
+fn versions_in(value: Option<&Tree>) -> Option<u32>
+    ensures { result ≡ spec.versions_in (option_map (λ t. json_of t.now) value.entry) }
+{
+    match value {
+        Some(tree) => number_in_value(tree, 0, LAST_LEFT_OUT),
+        None => Some(0),
+    }
+}
+
+/// The member `versions`.
+pub(crate) fn versions_row(alloc: Global, tree: &Tree) -> Result<u32, PlanFault>
+    ensures { Reads result (spec.member_row (codes "versions") spec.versions_in (members_under (json_of tree.now))) }
+{
+    row(alloc, "versions", versions_in(tree.member("versions")))
 }

@@ -18,7 +18,7 @@ use Rattle.thing_handler.specs.declared.handler.CallKind.TheVariants as call
 use Rattle.thing_handler.specs.declared.handler.Answer.TheVariants as answer
 use Rattle.thing_handler.specs.Turns.{HandlerCall, answered, missed}
 use Rattle.thing_site.specs.Site.{Placed, Site, those_of, of_kind}
-use Rattle.thing_state.specs.State.{Status, running, completed, State, Emission, last_of, version_of}
+use Rattle.thing_state.specs.State.{Status, running, completed, State, Emission, last_of, version_of, most_turns}
 use Rattle.thing_site.specs.declared.place.ThingAct.{ThingAct}
 use Rattle.thing_site.specs.declared.place.ThingAct.TheVariants.{Describes as describes, ReadsAll as reads_all, WritesMany as writes_many, Reads as reads, Writes as writes, Invokes as invokes, Queries as queries, Cancels as cancels, ReadsEvent as reads_event, Waits as waits}
 use Rattle.thing_site.specs.Refusals.{Refusal, Input, inputs_of, IsFirst, IsNone}
@@ -69,24 +69,35 @@ is_content done text t e = succeeds (text, outcome_is done (outcome.Content text
 
 -- ---- properties
 
+-- the run has no number left for a turn
+abbrev IsFull : State → Type 0
+IsFull s = s.turns ≡ most_turns s.left_out
+
+-- neither the turns nor the versions that are left out have changed
+abbrev IsAsFull : State → State → Type 0
+IsAsFull s t = (t.turns ≡ s.turns) × (t.left_out ≡ s.left_out)
+
+full_on : (s t : State) → IsAsFull s t → IsFull s → IsFull t
+full_on s t same full = same.0 ∙ full ∙ ap most_turns (sym same.1)
+
 -- a value, or the reason that there is none
 abbrev ValueSucceeds : Result Json Outcome → State → Type 0
 ValueSucceeds (Ok value) t = Unit {0}
 ValueSucceeds (Err o) t = Succeeds (λ _. ⊥) o t
 
 given_in_kind : (p : Placed) (called : Called) (r : Result Json Outcome) (s mid t : State) (first : List HandlerCall) → Calls p.slot call.Read called s first mid → CalledInKind p call.Read called
-    → GivesValue p.affordance.output called r → t.turns ≡ mid.turns → ValueSucceeds r t
+    → GivesValue p.affordance.output called r → IsAsFull mid t → ValueSucceeds r t
 given_in_kind p no_number r s mid t first made well given after =
-    subst (λ (x : Result Json Outcome). ValueSucceeds x t) (sym given) (lacks_numbers refl (after ∙ ap (λ (x : State). x.turns) made.1.next ∙ made.0))
+    subst (λ (x : Result Json Outcome). ValueSucceeds x t) (sym given) (lacks_numbers refl (full_on mid t after (subst IsFull (sym made.1.next) made.0)))
 given_in_kind p no_memory r s mid t first made well given after = subst (λ (x : Result Json Outcome). ValueSucceeds x t) (sym given) (lacks_memory refl)
 given_in_kind p (gives (answer.Value tree)) r s mid t first made well (inl given) after = subst (λ (x : Result Json Outcome). ValueSucceeds x t) (sym given.1) tt
 given_in_kind p (gives (answer.Value tree)) r s mid t first made well (inr given) after = absurd (given.0 well)
 given_in_kind p (gives a) r s mid t first made well given after = absurd well
 
 -- seeing a value is no turn
-turns_stay : (p : Placed) (r : Result Json Outcome) (s t : State) → t ≡ with_value p r s → t.turns ≡ s.turns
-turns_stay p (Ok value) s t e = ap (λ (x : State). x.turns) e
-turns_stay p (Err o) s t e = ap (λ (x : State). x.turns) e
+turns_stay : (p : Placed) (r : Result Json Outcome) (s t : State) → t ≡ with_value p r s → IsAsFull s t
+turns_stay p (Ok value) s t e = (ap (λ (x : State). x.turns) e, ap (λ (x : State). x.left_out) e)
+turns_stay p (Err o) s t e = (ap (λ (x : State). x.turns) e, ap (λ (x : State). x.left_out) e)
 
 value_succeeds : (p : Placed) (r : Result Json Outcome) (s t : State) (seen rest : List HandlerCall) → ReadsValue p r s seen t → AnswersInKind (seen ++ rest) p → ValueSucceeds r t
 value_succeeds p r s t seen rest q h =
@@ -99,7 +110,7 @@ value_succeeds p r s t seen rest q h =
 stops_there : (S : Outcome → Type 0) (o : Outcome) (done : Done) (mid t : State) → Succeeds (λ _. ⊥) o mid → done ≡ only o → t ≡ mid → Succeeds S done.outcome t
 stops_there S o done mid t (succeeds none) e after = absurd none
 stops_there S o done mid t (lacks_memory is) e after = lacks_memory (outcome_is done o e ∙ is)
-stops_there S o done mid t (lacks_numbers is full) e after = lacks_numbers (outcome_is done o e ∙ is) (ap (λ (x : State). x.turns) after ∙ full)
+stops_there S o done mid t (lacks_numbers is full) e after = lacks_numbers (outcome_is done o e ∙ is) (subst IsFull (sym after) full)
 
 each_read : (ps : List Placed) (got : List (List ℕ × Json)) (done : Done) (s t : State) (seen : List HandlerCall) → ReadsEach ps got done s seen t
     → AllByRecursion (AnswersInKind seen) ps → Succeeds IsContent done.outcome t
@@ -129,7 +140,7 @@ one_write : (i : Input) (tree : Tree) (called : Called) (F : Move) (emitted : Li
     → Calls i.affordance.slot (call.Write tree) called s first mid → CalledInKind i.affordance (call.Write tree) called → (F mid second t → Succeeds IsChanged done.outcome t)
     → IfDone called F (Stops (failure_of called) emitted done) mid second t → Succeeds IsChanged done.outcome t
 one_write i tree no_number F emitted done s mid t first second made well further x =
-    lacks_numbers (ap (λ (d : Done). d.outcome) x.0) (ap (λ (y : State). y.turns) (x.1.next ∙ made.1.next) ∙ made.0)
+    lacks_numbers (ap (λ (d : Done). d.outcome) x.0) (subst IsFull (sym (x.1.next ∙ made.1.next)) made.0)
 one_write i tree no_memory F emitted done s mid t first second made well further x = lacks_memory (ap (λ (d : Done). d.outcome) x.0)
 one_write i tree (gives answer.Done) F emitted done s mid t first second made well further x = further x
 one_write i tree (gives a) F emitted done s mid t first second made well further x = absurd well
@@ -152,7 +163,7 @@ each_written (i ∷ is) emitted done s t seen q all =
 invoked : (p : Placed) (path : List (List ℕ)) (id : ℕ) (handed : Option Tree) (called : Called) (done : Done) (s mid t : State) (first second : List HandlerCall)
     → Calls p.slot (call.Invoke id handed) called s first mid → CalledInKind p (call.Invoke id handed) called → IsInvoked p path id done called mid second t → Succeeds IsInvocation done.outcome t
 invoked p path id handed no_number done s mid t first second made well x =
-    lacks_numbers (outcome_is done _ x.0) (ap (λ (y : State). y.turns) (x.1.next ∙ made.1.next) ∙ made.0)
+    lacks_numbers (outcome_is done _ x.0) (subst IsFull (sym (x.1.next ∙ made.1.next)) made.0)
 invoked p path id handed no_memory done s mid t first second made well x = lacks_memory (outcome_is done _ x.0)
 invoked p path id handed (gives answer.Started) done s mid t first second made well x = succeeds (inr (inr (_, _, outcome_is done _ x.0)))
 invoked p path id handed (gives (answer.Finished None)) done s mid t first second made well x = succeeds (inl (outcome_is done _ x.0))
@@ -163,7 +174,7 @@ invoked p path id handed (gives a) done s mid t first second made well x = absur
 queried : (p : Placed) (id : ℕ) (called : Called) (done : Done) (s mid t : State) (first second : List HandlerCall)
     → Calls p.slot (call.Query id) called s first mid → CalledInKind p (call.Query id) called → IsQueried p id done called mid second t → Succeeds IsContent done.outcome t
 queried p id no_number done s mid t first second made well x =
-    lacks_numbers (outcome_is done _ x.0) (ap (λ (y : State). y.turns) (x.1.next ∙ made.1.next) ∙ made.0)
+    lacks_numbers (outcome_is done _ x.0) (subst IsFull (sym (x.1.next ∙ made.1.next)) made.0)
 queried p id no_memory done s mid t first second made well x = lacks_memory (outcome_is done _ x.0)
 queried p id (gives answer.Running) done s mid t first second made well x = is_content done _ t x.0
 queried p id (gives (answer.Finished None)) done s mid t first second made well x = is_content done _ t x.0
@@ -177,7 +188,7 @@ IsDeleted o = o ≡ outcome.Deleted
 cancelled : (p : Placed) (id : ℕ) (called : Called) (done : Done) (s mid t : State) (first second : List HandlerCall)
     → Calls p.slot (call.Cancel id) called s first mid → CalledInKind p (call.Cancel id) called → IsCancelled id done called mid second t → Succeeds IsDeleted done.outcome t
 cancelled p id no_number done s mid t first second made well x =
-    lacks_numbers (outcome_is done _ x.0) (ap (λ (y : State). y.turns) (x.1.next ∙ made.1.next) ∙ made.0)
+    lacks_numbers (outcome_is done _ x.0) (subst IsFull (sym (x.1.next ∙ made.1.next)) made.0)
 cancelled p id no_memory done s mid t first second made well x = lacks_memory (outcome_is done _ x.0)
 cancelled p id (gives answer.Cancelled) done s mid t first second made well x = succeeds (outcome_is done _ x.0)
 cancelled p id (gives a) done s mid t first second made well x = absurd well

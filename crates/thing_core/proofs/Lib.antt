@@ -16,5 +16,6 @@ pub mod Handed
 pub mod CompleteLaws
 pub mod ApartLaws
 pub mod DeterminedLaws
+mod TagLaws
 mod TickLaws
 mod RoundLaws

@@ -10,7 +10,7 @@ use Rattle.thing_handler.specs.Handler.{Seen}
 use Rattle.thing_handler.specs.Turns.{HandlerCall, RackShows}
 use Rattle.thing_handler.proofs.RackLaws.{rack_shows_in_order}
 use Rattle.wot_terms.specs.declared.kind.Kind.TheVariants as kind
-use Rattle.thing_site.specs.Site.{Placed, Site, those_of, events_of, is_emitter, is_kind, of_kind, emitters_of, emitters_of_thing}
+use Rattle.thing_site.specs.Site.{Placed, ExposedThing, Site, those_of, events_of, is_emitter, is_kind, of_kind, emitters_of, emitters_of_thing}
 use Rattle.thing_state.specs.Course.{Course}
 use Rattle.thing_state.specs.State.{Emission}
 use Rattle.thing_site.specs.declared.place.ThingAct.{ThingAct}
@@ -59,7 +59,7 @@ refusal_makes site q o c slots none refused = record {
 }
 
 -- all events are polled
-pub polls_made : (site : Site) (c d : Course) (before after : List Seen) → c.pending ≡ [] → PollsSome (events_of site) c d before after
+pub polls_made : (site : Site) (c d : Course) (before after : List Seen) → c.pending ≡ [] → PollsSome (events_of site.things) c d before after
     → MakesPolls (record { site = site; state = c.state; pending = c.pending }) (record { site = site; state = d.state; pending = d.pending }) before after
 polls_made site c d before after none k =
     let last = k.leads [] in
@@ -69,8 +69,8 @@ polls_made site c d before after none k =
       site = refl;
       made = record {
         seen = last.seen ++ [];
-        move = subst (λ (ps : List Placed). PollsEach ps k.emissions c.state (last.seen ++ []) d.state) (append-nil (events_of site))
-            (subst (λ (es : List Emission). PollsEach (events_of site ++ []) es c.state (last.seen ++ []) d.state) (append-nil k.emissions)
+        move = subst (λ (ps : List Placed). PollsEach ps k.emissions c.state (last.seen ++ []) d.state) (append-nil (events_of site.things))
+            (subst (λ (es : List Emission). PollsEach (events_of site.things ++ []) es c.state (last.seen ++ []) d.state) (append-nil k.emissions)
             (last.leads [] [] d.state (refl, record { next = refl; saw = refl })));
         shows = subst (λ (seen : List HandlerCall). RackShows before after seen) (sym (append-nil last.seen)) last.shows;
       };
@@ -88,7 +88,7 @@ events_few (p ∷ ps) = by_test (events_few ps) (is_kind kind.Event p.affordance
     by_test rest false true = omega (arith, rest)
     by_test rest false false = rest
 
-pub events_are_emitters : (site : Site) → length (events_of site) ≤ length (emitters_of site)
+pub events_are_emitters : (site : List ExposedThing) → length (events_of site) ≤ length (emitters_of site)
 events_are_emitters [] = omega arith
 events_are_emitters (t ∷ site) =
     omega (

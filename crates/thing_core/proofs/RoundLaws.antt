@@ -89,12 +89,12 @@ part_left (t ∷ things) (suc i) a =
     )
 
 -- a rack that has the slots of all events has those of the ones that are left
-pub left_stand : (count : ℕ) (site : Site) (r : Round) → AllStand count (events_of site) → AllStand count (events_left r site)
+pub left_stand : (count : ℕ) (site : List ExposedThing) (r : Round) → AllStand count (events_of site) → AllStand count (events_left r site)
 left_stand count site r all =
     let part = part_left site r.thing r.affordance in
     stands_rest count part.0 (events_left r site) (subst (λ (ps : List Placed). AllStand count ps) part.1 all)
 
-pub left_few : (site : Site) (r : Round) → length (events_left r site) ≤ length (events_of site)
+pub left_few : (site : List ExposedThing) (r : Round) → length (events_left r site) ≤ length (events_of site)
 left_few site r =
     let part = part_left site r.thing r.affordance in
     omega (arith, ap length part.1, length-append part.0 (events_left r site))
@@ -132,8 +132,8 @@ round_keeps c d before after P true one none =
 round_keeps c d before after P false one none = ap (λ (x : Course). length x.state.last) (none refl)
 
 pub round_made : (site : Site) (r q : Round) (c d : Course) (before after : List Seen) (b : Bool) → c.pending ≡ []
-    → (b ≡ true → (p : Placed) × (events_left r site ≡ p ∷ events_left q site) × PollsSome (p ∷ []) c d before after)
-    → (b ≡ false → events_left r site ≡ []) → (b ≡ false → d ≡ c) → (b ≡ false → after ≡ before)
+    → (b ≡ true → (p : Placed) × (events_left r site.things ≡ p ∷ events_left q site.things) × PollsSome (p ∷ []) c d before after)
+    → (b ≡ false → events_left r site.things ≡ []) → (b ≡ false → d ≡ c) → (b ≡ false → after ≡ before)
     → PollsNext b r q (record { site = site; state = c.state; pending = c.pending }) (record { site = site; state = d.state; pending = d.pending }) before after
 round_made site r q c d before after true empty one none same unseen =
     let k = one refl in

@@ -26,7 +26,7 @@ use Rattle.thing_site.specs.declared.place.ThingAct.TheVariants.{Invokes as invo
 use Rattle.thing_state.specs.Places.{where_stands}
 use Rattle.thing_site.specs.Refusals.{Input, inputs_of, longest_value, IsLong, SomeInput, Holding}
 use Rattle.thing_core.specs.Refusals.{Asked, act_asked, place_asked, refusals, HasNoInvocationLeft, NoneStands}
-use Rattle.thing_site.specs.Fits.{FitsSlot, Fits}
+use Rattle.thing_site.specs.Fits.{FitsSlot, ThingFits, Fits}
 use Rattle.thing_core.specs.Performing.{AllStand, InputsFit, MayBeDone, affordances_of_act}
 use Rattle.thing_core.proofs.Handed.{came_of, made_of, named_has, InputsHave, handed_have}
 use Rattle.thing_core.proofs.PlacedLists.{events_stand}
@@ -37,30 +37,36 @@ fits_stand : (slots : List Seen) (ps : List Placed) → AllByRecursion (FitsSlot
 fits_stand slots [] all = tt
 fits_stand slots (p ∷ ps) all = (slice_get_within slots p.slot all.0.0 all.0.1, fits_stand slots ps all.1)
 
--- this holds of all affordances of a site
+-- this holds of all affordances of Things, and of a site
+abbrev pub ThingsHave : (Placed → Type 0) → List ExposedThing → Type 0
+ThingsHave P things = AllByRecursion (λ t. AllByRecursion P t.affordances) things
+
 abbrev pub SiteHas : (Placed → Type 0) → Site → Type 0
-SiteHas P site = AllByRecursion (λ t. AllByRecursion P t.affordances) site
+SiteHas P site = ThingsHave P site.things
 
 -- they have slots of a rack of n
 abbrev pub SiteStands : ℕ → Site → Type 0
 SiteStands count site = SiteHas (λ p. p.slot < count) site
 
+things_stand : (slots : List Seen) (things : List ExposedThing) → AllByRecursion (ThingFits slots) things → ThingsHave (λ p. p.slot < length slots) things
+things_stand slots [] all = tt
+things_stand slots (t ∷ things) all = (fits_stand slots t.affordances all.0, things_stand slots things all.1)
+
 pub site_stands : (slots : List Seen) (site : Site) → Fits site slots → SiteStands (length slots) site
-site_stands slots [] all = tt
-site_stands slots (t ∷ site) all = (fits_stand slots t.affordances all.0, site_stands slots site all.1)
+site_stands slots site all = things_stand slots site.things all
 
 both_stand : (count : ℕ) (ps qs : List Placed) → AllStand count ps → AllStand count qs → AllStand count (ps ++ qs)
 both_stand count [] qs one other = other
 both_stand count (p ∷ ps) qs one other = (one.0, both_stand count ps qs one.1 other)
 
-pub all_events_stand : (count : ℕ) (site : Site) → SiteStands count site → AllStand count (events_of site)
+pub all_events_stand : (count : ℕ) (things : List ExposedThing) → ThingsHave (λ p. p.slot < count) things → AllStand count (events_of things)
 all_events_stand count [] all = tt
-all_events_stand count (t ∷ site) all =
-    both_stand count (those_of kind.Event t) (events_of site) (events_stand count t.affordances all.0) (all_events_stand count site all.1)
+all_events_stand count (t ∷ things) all =
+    both_stand count (those_of kind.Event t) (events_of things) (events_stand count t.affordances all.0) (all_events_stand count things all.1)
 
 -- ---- what is found
 
-thing_stands : (P : Placed → Type 0) (segment : List ℕ) (site : Site) (thing : ExposedThing) → SiteHas P site → thing_named segment site ≡ Some thing → AllByRecursion P thing.affordances
+thing_stands : (P : Placed → Type 0) (segment : List ℕ) (site : List ExposedThing) (thing : ExposedThing) → ThingsHave P site → thing_named segment site ≡ Some thing → AllByRecursion P thing.affordances
 thing_stands P segment [] thing all e = absurd cc
 thing_stands P segment (t ∷ site) thing all e = by_test (thing_stands P segment site thing all.1) (bytes_eq segment t.segment) e
   where
@@ -70,8 +76,8 @@ thing_stands P segment (t ∷ site) thing all e = by_test (thing_stands P segmen
 
 in_site_stands : (P : Placed → Type 0) (path : List (List ℕ)) (site : Site) (thing : ExposedThing) → SiteHas P site → thing_in path site ≡ Some thing → AllByRecursion P thing.affordances
 in_site_stands P path site thing all e =
-    let of_segment = came_of (λ (segment : List ℕ). thing_named segment site) (slice_get path 0) thing e in
-    thing_stands P of_segment.0 site thing all of_segment.2
+    let of_segment = came_of (λ (segment : List ℕ). thing_named segment site.things) (slice_get path 0) thing e in
+    thing_stands P of_segment.0 site.things thing all of_segment.2
 
 in_thing_stands : (P : Placed → Type 0) (k : Kind) (path : List (List ℕ)) (site : Site) (p : Placed) → SiteHas P site → affordance_in k path site ≡ Some p → P p
 in_thing_stands P k path site p all e =
@@ -103,7 +109,7 @@ PlaceStands P s (invocation p id) = (P p) × IsSome (invocation_named p.slot id 
 PlaceStands P s (event p) = P p
 PlaceStands P s (subscribed p) = P p
 
-root_stands : (P : Placed → Type 0) (site : Site) (thing : ExposedThing) → SiteHas P site → slice_get site 0 ≡ Some thing → AllByRecursion P thing.affordances
+root_stands : (P : Placed → Type 0) (site : List ExposedThing) (thing : ExposedThing) → ThingsHave P site → slice_get site 0 ≡ Some thing → AllByRecursion P thing.affordances
 root_stands P [] thing all e = absurd cc
 root_stands P (t ∷ site) thing all e = subst (λ (x : ExposedThing). AllByRecursion P x.affordances) (same_Some t thing e) all.0
 
@@ -116,7 +122,7 @@ observable_has P p place below e = by_test p.affordance.observable e
 
 place_has : (P : Placed → Type 0) (form : RouteKind) (path : List (List ℕ)) (site : Site) (place : Resource) → SiteHas P site → place_at form path site ≡ Some place → HasAll P place
 place_has P route.Root path site place all e =
-    let of = made_of description (slice_get site 0) place e in subst (λ (x : Resource). HasAll P x) of.2 (root_stands P site of.0 all of.1)
+    let of = made_of description (slice_get site.things 0) place e in subst (λ (x : Resource). HasAll P x) of.2 (root_stands P site.things of.0 all of.1)
 place_has P route.Thing path site place all e =
     let of = made_of description (thing_in path site) place e in subst (λ (x : Resource). HasAll P x) of.2 (in_site_stands P path site of.0 all of.1)
 place_has P route.All path site place all e =

@@ -7,12 +7,12 @@ use Rattle.thing_ops.specs.declared.outcome.Outcome.{Outcome}
 use Rattle.thing_ops.specs.Requests.{RequestSeen}
 use Rattle.thing_handler.specs.Handler.{Seen}
 use Rattle.thing_handler.specs.Turns.{RunTurn, HandlerCall, GrewBy}
-use Rattle.thing_site.specs.Site.{Placed, Site}
+use Rattle.thing_site.specs.Site.{Placed, ExposedThing, Site}
 use Rattle.thing_state.specs.State.{State}
 use Rattle.thing_site.specs.Refusals.{refused_by_schema}
 use Rattle.thing_core.specs.Refusals.{Stands}
 use Rattle.thing_core.specs.Thing.{Acts, Done, refuses, has_no_memory, performs}
-use Rattle.thing_site.specs.Fits.{Fits, FitsSlot}
+use Rattle.thing_site.specs.Fits.{Fits, FitsSlot, ThingFits}
 use Rattle.thing_core.specs.Kept.{Kept}
 use Rattle.thing_core.specs.Performing.{MakesAct, MakesPolls}
 
@@ -41,9 +41,12 @@ all_stay : (turns : List RunTurn) (before after : List Seen) (ps : List Placed) 
 all_stay turns before after [] grew all = tt
 all_stay turns before after (p ∷ ps) grew all = (slot_stays turns before after p grew all.0, all_stay turns before after ps grew all.1)
 
+things_stay : (turns : List RunTurn) (before after : List Seen) (things : List ExposedThing) → GrewBy turns 0 before after → AllByRecursion (ThingFits before) things → AllByRecursion (ThingFits after) things
+things_stay turns before after [] grew all = tt
+things_stay turns before after (t ∷ things) grew all = (all_stay turns before after t.affordances grew all.0, things_stay turns before after things grew all.1)
+
 pub site_stays : (turns : List RunTurn) (before after : List Seen) (site : Site) → GrewBy turns 0 before after → Fits site before → Fits site after
-site_stays turns before after [] grew all = tt
-site_stays turns before after (t ∷ site) grew all = (all_stay turns before after t.affordances grew all.0, site_stays turns before after site grew all.1)
+site_stays turns before after site grew all = things_stay turns before after site.things grew all
 
 pub fits_on : (old new : Kept) (q : RequestSeen) (o : Outcome) (before after : List Seen) → MakesAct old new q o before after → Fits old.site before → Fits new.site after
 fits_on old new q o before after act fits =

@@ -59,4 +59,4 @@ in_turn (p ∷ ps) es s t made q =
     )
 
 pub same_in_turn : (site : Site) → IsSameInTurn site
-same_in_turn site = (all_first (events_of site), (λ s t made es q. in_turn (events_of site) es s t made q))
+same_in_turn site = (all_first (events_of site.things), (λ s t made es q. in_turn (events_of site.things) es s t made q))

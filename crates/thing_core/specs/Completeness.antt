@@ -83,7 +83,7 @@ IsSuccess (act.Waits p) q o = o ≡ outcome.Wait p.slot
 pub data Succeeds (S : Outcome → Type 0) (o : Outcome) (t : State) : Type 0 where
   succeeds : S o → Succeeds S o t
   lacks_memory : o ≡ outcome.Memory → Succeeds S o t
-  lacks_numbers : o ≡ outcome.CallsUsed → t.turns ≡ most_turns → Succeeds S o t
+  lacks_numbers : o ≡ outcome.CallsUsed → t.turns ≡ most_turns t.left_out → Succeeds S o t
 
 -- Where no refusal holds of a request, and the handlers that its act may call answer in kind, its outcome is the
 -- success of its act; or it is out of memory, or the run has no number left for a turn.

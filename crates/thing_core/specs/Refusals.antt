@@ -14,14 +14,15 @@ use Rattle.thing_site.specs.declared.place.Resource.{Resource}
 use Rattle.thing_site.specs.declared.place.ThingAct.{ThingAct}
 use Rattle.thing_site.specs.declared.place.ThingAct.TheVariants as act
 use Rattle.thing_site.specs.Refusals.{Refusal, nothing_there, verb_not_taken, condition_failed, no_invocation_left, refusals_by_request, Holding, StandsByRequest, IsAnswer, IsFirst, IsNone}
-use Rattle.thing_state.specs.State.{State, running_count, most_invocations, version_of}
+use Rattle.thing_state.specs.State.{State, running_count, most_invocations, tag_of}
 use Rattle.thing_state.specs.Places.{place_of}
 
 -- A property would be written whose version isn't what the request asks for. Its version before the call counts, so
--- that a client that read it first loses nobody's write (RFC 9110, section 13.1.1). Of all else that is written no
--- condition is looked at, and one property's read is judged after its call.
+-- that a client that read it first loses nobody's write (RFC 9110, section 13.1.1); where nothing was seen of it in this
+-- run, it has none that a tag names. Of all else that is written no condition is looked at, and one property's read is
+-- judged after its call.
 abbrev pub HasFailedCondition : State → Conditions → ThingAct → Type 0
-HasFailedCondition s c (act.Writes p) = IsTrue (fails_to_write c (version_of p.slot s.versions))
+HasFailedCondition s c (act.Writes p) = IsTrue (fails_to_write c (tag_of p.slot s.versions))
 HasFailedCondition s c act = ⊥
 
 -- as many invocations run as may

@@ -5,7 +5,7 @@ use Rattle.servient_base.specs.Moves.{Makes}
 use Rattle.wot_terms.specs.declared.kind.Kind.TheVariants as kind
 use Rattle.thing_handler.specs.Handler.{Seen}
 use Rattle.thing_handler.specs.Turns.{RackShows}
-use Rattle.thing_site.specs.Site.{Placed, ExposedThing, Site, of_kind, events_of}
+use Rattle.thing_site.specs.Site.{Placed, ExposedThing, of_kind, events_of}
 use Rattle.thing_core.specs.declared.polling.Round.{Round}
 use Rattle.thing_state.specs.State.{Emission}
 use Rattle.thing_core.specs.Thing.{PollsEvent}
@@ -17,8 +17,8 @@ events_from affordance [] = []
 events_from affordance (thing ∷ things) = filter (of_kind kind.Event) (drop affordance thing.affordances) ++ events_of things
 
 -- the events that weren't polled yet in a round, in the order of Things and names
-abbrev pub events_left : Round → Site → List Placed
-events_left round site = events_from round.affordance (drop round.thing site)
+abbrev pub events_left : Round → List ExposedThing → List Placed
+events_left round things = events_from round.affordance (drop round.thing things)
 
 -- An event was polled, and what it emits waits to be handed out.
 pub record MakesPoll (p : Placed) (old new : Kept) (before after : List Seen) : Type 0 where
@@ -30,5 +30,5 @@ pub record MakesPoll (p : Placed) (old new : Kept) (before after : List Seen) : 
 -- The first event that is left was polled; or none is left, and nothing was done.
 abbrev pub PollsNext : Bool → Round → Round → Kept → Kept → List Seen → List Seen → Type 0
 PollsNext true round later old new before after =
-    (p : Placed) × (events_left round old.site ≡ p ∷ events_left later old.site) × MakesPoll p old new before after
-PollsNext false round later old new before after = (events_left round old.site ≡ []) × (new ≡ old) × (after ≡ before)
+    (p : Placed) × (events_left round old.site.things ≡ p ∷ events_left later old.site.things) × MakesPoll p old new before after
+PollsNext false round later old new before after = (events_left round old.site.things ≡ []) × (new ≡ old) × (after ≡ before)

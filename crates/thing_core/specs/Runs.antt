@@ -1,11 +1,14 @@
 -- Versions of properties over a run: what entity tags promise (RFC 9110, section 8.8.3), and that no write is lost
 -- (section 13.1.1).
-use Rattle.std.specs.Prelude.{◌≡◌, ◌≤◌, ℕ, ◌+◌, ◌==◌, List, [], ◌∷◌, Option, Some, None, option_map, IsSome, if◌then◌else◌, false}
+use Rattle.std.specs.Prelude.{◌≡◌, ◌≢◌, ◌≤◌, ◌<◌, ℕ, ◌+◌, ◌==◌, ◌&&◌, Bool, true, List, [], ◌∷◌, ◌++◌, Option, Some, None, option_map, IsSome, if◌then◌else◌, false}
 use Rattle.std.specs.List.{AllByRecursion}
 use Rattle.servient_base.specs.Moves.{Each}
 use Rattle.thing_ops.specs.declared.outcome.Outcome.TheVariants as outcome
+use Rattle.thing_ops.specs.Outcomes.{version_of as tag_sent}
 use Rattle.thing_ops.specs.Requests.{RequestSeen}
-use Rattle.thing_handler.specs.Turns.{HandlerCall}
+use Rattle.thing_handler.specs.declared.handler.CallKind.{CallKind}
+use Rattle.thing_handler.specs.declared.handler.CallKind.TheVariants as call
+use Rattle.thing_handler.specs.Turns.{HandlerCall, answered, missed}
 use Rattle.thing_site.specs.Site.{Placed, Site}
 use Rattle.thing_site.specs.declared.place.ThingAct.{ThingAct}
 use Rattle.thing_site.specs.declared.place.ThingAct.TheVariants as act
@@ -72,9 +75,10 @@ pub record IsReached (site : Site) (s : State) : Type 0 where
   pub seen : List HandlerCall
   pub run : DoesAll site deeds (start site) seen s
 
--- A version counts turns of the run: it is a number of 32 bits.
+-- A version counts turns of the run, after the versions that are left out: it is a number of 32 bits where those are.
 abbrev pub VersionsAreFew : Site → Type 0
-VersionsAreFew site = (s : State) → IsReached site s → (slot : ℕ) → (version_of slot s.versions ≤ s.turns) × (s.turns ≤ most_turns)
+VersionsAreFew site =
+    (s : State) → IsReached site s → (slot : ℕ) → (version_of slot s.versions ≤ site.left_out + s.turns) × (s.turns ≤ most_turns site.left_out)
 
 -- ---- reads and writes of one property
 
@@ -92,11 +96,11 @@ SameTagSameText site =
     → IsAsked site q (act.Reads p) one s t → DoesAll site deeds t between u → IsAsked site r (act.Reads p) other u v
     → one.outcome ≡ outcome.Content text (Some tag) → other.outcome ≡ outcome.Content further (Some tag) → text ≡ further
 
--- A tag is at least 1.
+-- A tag is no version that is left out.
 abbrev pub TagsAreSeen : Site → Type 0
 TagsAreSeen site =
     (p : Placed) (q : RequestSeen) (done : Done) (s t : State) (tag : ℕ) (text : List ℕ) → IsReached site s → IsSome (version_in p.slot s.versions)
-    → IsAsked site q (act.Reads p) done s t → done.outcome ≡ outcome.Content text (Some tag) → 1 ≤ tag
+    → IsAsked site q (act.Reads p) done s t → done.outcome ≡ outcome.Content text (Some tag) → site.left_out < tag
 
 -- No write is lost: one that was done and asks for the version that was read found the property as it was read.
 abbrev pub NoWriteIsLost : Site → Type 0
@@ -110,4 +114,58 @@ NoWriteIsLost site =
 
 -- Each property has a version at the beginning, and so in each state that is reached.
 abbrev pub PropertiesHaveVersions : Site → Type 0
-PropertiesHaveVersions site = (s : State) → IsReached site s → AllByRecursion (λ p. IsSome (version_in p.slot s.versions)) (properties_of site)
+PropertiesHaveVersions site = (s : State) → IsReached site s → AllByRecursion (λ p. IsSome (version_in p.slot s.versions)) (properties_of site.things)
+
+-- ---- from one run to a later one
+
+-- a property is read or written
+abbrev pub reads_or_writes : CallKind → Bool
+reads_or_writes call.Read = true
+reads_or_writes (call.Write value) = true
+reads_or_writes what = false
+
+-- the number of turns among these calls in which the property in this slot was read or written
+abbrev pub reads_and_writes : ℕ → List HandlerCall → ℕ
+reads_and_writes slot [] = 0
+reads_and_writes slot (answered turn ∷ calls) =
+    (if (turn.slot == slot) && reads_or_writes turn.what then 1 else 0) + reads_and_writes slot calls
+reads_and_writes slot (missed other ∷ calls) = reads_and_writes slot calls
+
+-- A later run leaves out the versions that an earlier one left out, and as many more as any one property was read and
+-- written there.
+abbrev pub LeavesOutMore : Site → List HandlerCall → Site → Type 0
+LeavesOutMore site seen later = (slot : ℕ) → site.left_out + reads_and_writes slot seen ≤ later.left_out
+
+-- A run from the beginning, with these calls, in which a read of the property in this slot was answered with this tag: with
+-- its value, or with the word that the client has it (RFC 9110, section 15.4.5).
+pub record SendsTag (site : Site) (slot tag : ℕ) (seen : List HandlerCall) : Type 0 where
+  pub before : List Deed
+  pub begun : List HandlerCall
+  pub s : State
+  pub begins : DoesAll site before (start site) begun s
+  pub p : Placed
+  pub request : RequestSeen
+  pub done : Done
+  pub t : State
+  pub asked : IsAsked site request (act.Reads p) done s t
+  pub named : p.slot ≡ slot
+  pub there : IsSome (version_in p.slot s.versions)
+  pub sent : tag_sent done.outcome ≡ Some tag
+  pub after : List Deed
+  pub further : List HandlerCall
+  pub u : State
+  pub goes_on : DoesAll site after t further u
+  pub whole : seen ≡ begun ++ (asked.seen ++ further)
+
+-- No tag comes again: each that the later run sends is greater than each that the earlier one sent.
+abbrev pub TagsDontComeAgain : Site → Site → Type 0
+TagsDontComeAgain site later =
+    (seen more : List HandlerCall) (slot other tag further : ℕ) → LeavesOutMore site seen later
+    → SendsTag site slot tag seen → SendsTag later other further more → tag < further
+
+-- No write of the later run is done that asks for a tag of the earlier one.
+abbrev pub OldTagsAreNotMet : Site → Site → Type 0
+OldTagsAreNotMet site later =
+    (seen : List HandlerCall) (slot tag : ℕ) → LeavesOutMore site seen later → SendsTag site slot tag seen
+    → (p : Placed) (request : RequestSeen) (written : Done) (u v : State) → IsReached later u → IsAsked later request (act.Writes p) written u v
+    → request.conditions.if_match ≡ Some (record { any = false; list = tag ∷ [] }) → written.outcome ≢ outcome.Changed

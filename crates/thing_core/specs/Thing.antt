@@ -252,4 +252,4 @@ PollsEach (p ∷ ps) emissions s seen t =
 
 -- All events are polled, in the order of Things and names.
 abbrev pub Polls : Site → List Emission → Move
-Polls site = PollsEach (events_of site)
+Polls site = PollsEach (events_of site.things)

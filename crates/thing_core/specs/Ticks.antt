@@ -35,7 +35,7 @@ PollsAndHandsOut p s seen t =
 
 -- all events are, one after another, in the order of Things and names
 abbrev pub PollsInTurn : Site → State → List TickSeen → State → Type 0
-PollsInTurn site = Each PollsAndHandsOut (events_of site)
+PollsInTurn site = Each PollsAndHandsOut (events_of site.things)
 
 -- All that is done one event after another is done too where all events are polled first and all emissions are handed
 -- out afterwards, and the other way round: with the same calls, the same emissions, each in the same order, and the

@@ -59,7 +59,7 @@ fn refusal_by_state(
 {
     match act {
         ThingAct::Writes(spot) => {
-            if conditions.fails_to_write(machine.version_of(spot.slot())) {
+            if conditions.fails_to_write(machine.tag_of(spot.slot())) {
                 Some(Outcome::PreconditionFailed)
             } else {
                 None

@@ -23,7 +23,7 @@ use std::marker::Model;
 use thing_handler::Handlers;
 use thing_ops::{Outcome, Request, Segments};
 use thing_site::{IndexedThings, target_at};
-use thing_state::{Machine, place_of, silent_all, unseen_all};
+use thing_state::{MOST_TURNS, Machine, place_of, silent_all, unseen_all};
 use wot_terms::Things;
 
 /// Things, their affordances and the handlers of these, with the state of the Thing machine.
@@ -45,7 +45,7 @@ impl Model for Exposed {
 
     ghost view = { λ e. record { site = e.things; state = e.machine.state; pending = e.machine.pending } };
 
-    ghost invariant = { λ e. length e.machine.state.last ≡ length (emitters_of e.things) };
+    ghost invariant = { λ e. length e.machine.state.last ≡ length (emitters_of e.things.things) };
 }
 
 /// The counts of turns and invocations.
@@ -58,26 +58,28 @@ pub struct Accounts {
 }
 
 impl Exposed {
-    /// Things as they are exposed by these slots of a rack, before the first request.
+    /// Things as they are exposed by these slots of a rack, before the first request of a run that leaves out the
+    /// versions up to `left_out`.
     pub fn new<R: Handlers>(
         alloc: Global,
         things: Things,
         slots: &Slots,
         rack: &R,
+        left_out: u32,
     ) -> Result<Exposed, ExposeFault>
         requires { AllByRecursion (λ t. IsValid t.1) things }
-        ensures ok { IfOk result (λ e. e ≡ record { site = site_of slots.now things; state = start (site_of slots.now things); pending = [] }) }
+        ensures ok { IfOk result (λ e. e ≡ record { site = site_of left_out slots.now things; state = start (site_of left_out slots.now things); pending = [] }) }
         ensures faultless { OnOk result (expose_faults (kinds_of (R.slots rack.now)) slots.now things ≡ []) }
         ensures fits { IfOk result (λ e. Fits e.site (R.slots rack.now)) }
         ensures fault { IfErr result (λ fault. IsFirst (expose_faults (kinds_of (R.slots rack.now)) slots.now things) fault) }
     {
-        let things = IndexedThings::new(alloc, things, slots, rack)?;
-        let versions = unseen_all(alloc, things.as_slice())?;
+        let things = IndexedThings::new(alloc, things, slots, rack, left_out)?;
+        let versions = unseen_all(alloc, things.as_slice(), left_out)?;
         let last = silent_all(alloc, things.as_slice())?;
         Ok(Exposed {
             alloc,
             things,
-            machine: Machine::new(alloc, versions, last)?,
+            machine: Machine::new(alloc, versions, last, left_out)?,
         })
     }
 
@@ -145,13 +147,20 @@ impl Exposed {
     /// The counts of turns and invocations.
     pub fn accounts(&self) -> Accounts
         ensures calls { result.calls ≡ self.now.state.turns }
-        ensures bound { result.calls ≤ most_turns }
+        ensures bound { result.calls ≤ most_turns self.now.state.left_out }
         ensures invocations { result.invocations ≡ length self.now.state.invocations }
     {
         Accounts {
             calls: self.machine.turns(),
             invocations: self.machine.standing(),
         }
+    }
+
+    /// The most turns that a run of this site may have.
+    pub fn most_turns(&self) -> u64
+        ensures { result ≡ most_turns self.now.site.left_out }
+    {
+        MOST_TURNS - u64::from(self.things.left_out())
     }
 
     /// The id of the next invocation, counted over all actions.

@@ -13,8 +13,8 @@ use thing_handler::{Answer, CallKind, Handlers, Slot};
 use thing_ops::{Outcome, Segments};
 use thing_site::{Input, LONGEST_VALUE, Spot};
 use thing_state::{
-    Invocation, MOST_TURNS, Machine, TextRoom, call, failure, invocation_in, put_completed,
-    put_running, taken_text,
+    Invocation, Machine, TextRoom, call, failure, invocation_in, put_completed, put_running,
+    taken_text,
 };
 use wot_json::{Bytes, Tree};
 use wot_schema::Schema;
@@ -76,7 +76,7 @@ pub fn invoke<R: Handlers>(
         → MakesDone (Invokes spot.entry path inputs.entry.items) result machine.old machine.new (R.slots rack.old) (R.slots rack.new) }
 {
     let input = handed_in(inputs);
-    if machine.turns() == MOST_TURNS {
+    if machine.turns() == machine.most_turns() {
         return Outcome::CallsUsed;
     }
     let id = machine.next_invocation() as u32;

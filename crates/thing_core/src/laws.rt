@@ -15,7 +15,7 @@ ghost use Rattle.thing_core.specs.Kept.{Kept};
 ghost use Rattle.thing_core.specs.Performing.{MakesAct, MakesPolls};
 ghost use Rattle.thing_core.specs.Completeness.{IsComplete};
 ghost use Rattle.thing_core.specs.Determined.{IsDetermined};
-ghost use Rattle.thing_core.specs.Runs.{NoWriteIsLost, PropertiesHaveVersions, SameTagSameText, TagsAreSeen, TextsMakeVersions, VersionsAreFew, VersionsSeeTexts};
+ghost use Rattle.thing_core.specs.Runs.{NoWriteIsLost, OldTagsAreNotMet, PropertiesHaveVersions, SameTagSameText, TagsAreSeen, TagsDontComeAgain, TextsMakeVersions, VersionsAreFew, VersionsSeeTexts};
 ghost use Rattle.thing_core.specs.Ticks.{IsSameInTurn};
 
 /// A value that its schema refuses reaches no handler, and changes nothing.
@@ -72,9 +72,18 @@ pub fn no_write_is_lost()
     ensures { (site : Site) → NoWriteIsLost site }
 {}
 
-/// In every state of a run each property has a version, which is at most the number of turns, and a tag is at least 1.
+/// In every state of a run each property has a version, which is at most the number of turns after those that are left
+/// out, and a tag is none of these.
 pub fn versions_count_turns()
     ensures few { (site : Site) → VersionsAreFew site }
     ensures there { (site : Site) → PropertiesHaveVersions site }
     ensures tags { (site : Site) → TagsAreSeen site }
+{}
+
+/// In two runs, of which the later leaves out the versions that the earlier one left out, and as many more as any one
+/// property was read and written there, no tag is sent twice (RFC 9110, section 8.8.1); and no write of the later run is
+/// done that asks for a tag of the earlier one.
+pub fn tags_do_not_come_again()
+    ensures sent { (site later : Site) → TagsDontComeAgain site later }
+    ensures asked { (site later : Site) → OldTagsAreNotMet site later }
 {}

@@ -6,7 +6,7 @@
 //! ```text
 //! let mut slots = Slots::new(alloc);
 //! slots.push(segment, pointer, 0)?; // `lamp` and `/properties/status`
-//! let mut lamp = Exposed::new(alloc, things, &slots, &rack)?;
+//! let mut lamp = Exposed::new(alloc, things, &slots, &rack, 0)?;
 //! let outcome = lamp.perform(&mut rack, &request); // GET /lamp/properties/status
 //! assert!(matches!(outcome, Outcome::Content { .. }));
 //! assert_eq!(lamp.accounts().calls, 1);
@@ -34,9 +34,8 @@ pub use exposed::{Accounts, Exposed};
 pub use laws::{
     a_rack_fits_on, a_rack_fits_on_after_polls, no_write_is_lost, one_tag_is_one_text,
     polls_are_the_same_in_turn, refused_values_reach_no_handler, requests_are_complete,
-    versions_count_turns, versions_see_texts,
+    tags_do_not_come_again, versions_count_turns, versions_see_texts,
 };
 pub use polling::Round;
 pub use servient_base::NoMemory;
 pub use thing_site::{ExposeFault, Slots};
-pub use thing_state::MOST_TURNS;

@@ -1,9 +1,9 @@
 //! Polls of events, and what they emit.
 
-ghost use Rattle.std.specs.Prelude.{◌≡◌, ◌≤◌, ◌<◌, ◌+◌, ◌∷◌, [], length, drop, true, false, MatchOption};
+ghost use Rattle.std.specs.Prelude.{◌≡◌, ◌≤◌, ◌<◌, ◌+◌, ◌∷◌, [], List, length, drop, true, false, MatchOption};
 ghost use Rattle.std.specs.List.{filter};
 ghost use Rattle.wot_terms.specs.declared.kind.Kind.TheVariants as kind;
-ghost use Rattle.thing_site.specs.Site.{Placed, Site, events_of, of_kind};
+ghost use Rattle.thing_site.specs.Site.{Placed, ExposedThing, events_of, of_kind};
 ghost use Rattle.thing_core.specs.Rounds.{events_left};
 ghost use Rattle.thing_core.specs.Performing.{AllStand, PollsSome};
 
@@ -23,7 +23,7 @@ pub struct Round {
 impl Round {
     /// The beginning of a round: all events are left.
     pub fn new() -> Round
-        ensures { (site : Site) → events_left result site ≡ events_of site }
+        ensures { (things : List ExposedThing) → events_left result things ≡ events_of things }
     {
         Round {
             thing: 0,

@@ -16,9 +16,9 @@ use Rattle.thing_handler.specs.Handler.{Seen}
 use Rattle.thing_site.specs.declared.fault.ExposeFault.{ExposeFault}
 use Rattle.thing_site.specs.declared.fault.ExposeFault.TheVariants.{NoSlot, KindDiffers, SlotTwice}
 use Rattle.thing_site.specs.declared.wanted.Wanted.{Wanted}
-use Rattle.thing_site.specs.Site.{Slots, slot_named, pointer_of, placed, site_of, wanted_by, wanted_of, is_kind, has_kind, is_among, fault_of, faults_from, slots_in, expose_faults}
+use Rattle.thing_site.specs.Site.{Slots, slot_named, pointer_of, placed, exposed_all, site_of, wanted_by, wanted_of, is_kind, has_kind, is_among, fault_of, faults_from, slots_in, expose_faults}
 use Rattle.thing_site.specs.Exposing.{kinds_of}
-use Rattle.thing_site.specs.Fits.{FitsSlot, Fits}
+use Rattle.thing_site.specs.Fits.{FitsSlot, ThingFits, Fits}
 
 -- descriptions of Things are valid as the code keeps them
 pub valid_things : (things : List Thing) → AllByRecursion (λ t. IsValid t.1) (kept_things things) → AllByRecursion (λ t. IsValid (json_of t.tree)) things
@@ -77,11 +77,11 @@ those_fit seen slots segment earlier (a ∷ affordances) rest e =
     let further = those_fit seen slots segment (earlier ++ slots_in w.slot) affordances rest both.1 in
     ((fits_if seen earlier segment (pointer_of a) a.kind (slot_named segment (pointer_of a) slots) both.0, further.0), further.1)
 
-all_fit : (seen : List Seen) (slots : Slots) (earlier : List ℕ) (things : List (List ℕ × Json)) → faults_from (kinds_of seen) earlier (wanted_of slots things) ≡ [] → Fits (site_of slots things) seen
+all_fit : (seen : List Seen) (slots : Slots) (earlier : List ℕ) (things : List (List ℕ × Json)) → faults_from (kinds_of seen) earlier (wanted_of slots things) ≡ [] → AllByRecursion (ThingFits seen) (exposed_all slots things)
 all_fit seen slots earlier [] e = tt
 all_fit seen slots earlier (t ∷ things) e =
     let thing = those_fit seen slots t.0 earlier (affordances_of t.1) (wanted_of slots things) e in
     (thing.0, all_fit seen slots thing.1.0 things thing.1.1)
 
-pub faultless_fits : (seen : List Seen) (slots : Slots) (things : List (List ℕ × Json)) → expose_faults (kinds_of seen) slots things ≡ [] → Fits (site_of slots things) seen
-faultless_fits seen slots things e = all_fit seen slots [] things e
+pub faultless_fits : (seen : List Seen) (left_out : ℕ) (slots : Slots) (things : List (List ℕ × Json)) → expose_faults (kinds_of seen) slots things ≡ [] → Fits (site_of left_out slots things) seen
+faultless_fits seen left_out slots things e = all_fit seen slots [] things e

@@ -15,7 +15,7 @@ use Rattle.std.proofs.lemmas.Slice.Eq.{bytes_eq-Decides}
 use Rattle.std.proofs.lemmas.List.Sorted.{searchable_from_sorted}
 use Rattle.std.proofs.lemmas.Cmp.{alike_right}
 use Rattle.std.proofs.lemmas.Map.Text.{is_eq-slice_cmp}
-use Rattle.thing_site.specs.Site.{ExposedThing, Site, thing_named}
+use Rattle.thing_site.specs.Site.{ExposedThing, thing_named}
 use Rattle.thing_site.specs.Index.{segment_of, segment_at, segment_order, thing_among, SegmentsRise, Indexes}
 
 -- ---- the order at any two places
@@ -27,10 +27,10 @@ at_place P (n ∷ ns) zero d all within = all.0
 at_place P (n ∷ ns) (suc i) d all within = at_place P ns i d all.1 (omega arith)
 
 -- the order of the segments of two numbers
-abbrev between : Site → ℕ → ℕ → Ordering
+abbrev between : List ExposedThing → ℕ → ℕ → Ordering
 between site n m = slice_cmp nat_cmp (segment_at site n) (segment_at site m)
 
-earlier_segment : (site : Site) (ns : List ℕ) → SegmentsRise site ns → (i j d : ℕ) → i < j → j < length ns → between site (get_or ns i d) (get_or ns j d) ≡ Less
+earlier_segment : (site : List ExposedThing) (ns : List ℕ) → SegmentsRise site ns → (i j d : ℕ) → i < j → j < length ns → between site (get_or ns i d) (get_or ns j d) ≡ Less
 earlier_segment site [] rise i j d below within = absurd (omega arith)
 earlier_segment site (n ∷ ns) rise i zero d below within = absurd (omega arith)
 earlier_segment site (n ∷ ns) rise zero (suc j) d below within = at_place (λ m. between site n m ≡ Less) ns j d rise.0 (omega arith)
@@ -38,7 +38,7 @@ earlier_segment site (n ∷ ns) rise (suc i) (suc j) d below within = earlier_se
 
 -- ---- a binary search
 
-segments_rise : (site : Site) (ns segment : List ℕ) → SegmentsRise site ns → IsNonDecreasingBy (λ n. ordering_index (segment_order site segment n)) ns
+segments_rise : (site : List ExposedThing) (ns segment : List ℕ) → SegmentsRise site ns → IsNonDecreasingBy (λ n. ordering_index (segment_order site segment n)) ns
 segments_rise site ns segment rise = searchable_from_sorted nat_list_cmp_total (segment_at site) ns segment
     (λ i d low within. ap is_lt (nat_list_cmp_total.antisymm (segment_at site (get_or ns (i + 1) d)) (segment_at site (get_or ns i d))
     ∙ ap ordering_reverse (earlier_segment site ns rise i (i + 1) d (omega arith) within)))
@@ -47,7 +47,7 @@ test_of : (a segment : List ℕ) (o : Ordering) → slice_cmp nat_cmp a segment 
 test_of a segment o is = sym (is_eq-slice_cmp segment a) ∙ ap is_eq (nat_list_cmp_total.antisymm segment a ∙ ap ordering_reverse is)
 
 -- the one at a place that compares as equal is the one among them
-found_among : (site : Site) (ns segment : List ℕ) (i d : ℕ) → SegmentsRise site ns → i < length ns → segment_order site segment (get_or ns i d) ≡ Equal
+found_among : (site : List ExposedThing) (ns segment : List ℕ) (i d : ℕ) → SegmentsRise site ns → i < length ns → segment_order site segment (get_or ns i d) ≡ Equal
     → slice_get site (get_or ns i d) ≡ thing_among segment site ns
 found_among site [] segment i d rise within same = absurd (omega arith)
 found_among site (n ∷ ns) segment zero d rise within same = rw (test_of (segment_at site n) segment Equal same) refl
@@ -57,21 +57,21 @@ found_among site (n ∷ ns) segment (suc i) d rise within same =
     rw (test_of (segment_at site n) segment Less less) (found_among site ns segment i d rise.1 (omega arith) same)
 
 -- each of these compares otherwise
-abbrev AllDiffer : Site → List ℕ → List ℕ → Type 0
+abbrev AllDiffer : List ExposedThing → List ℕ → List ℕ → Type 0
 AllDiffer site segment ns = AllByRecursion (λ n. bytes_eq segment (segment_at site n) ≡ false) ns
 
-none_among : (site : Site) (ns segment : List ℕ) → AllDiffer site segment ns → None ≡ thing_among segment site ns
+none_among : (site : List ExposedThing) (ns segment : List ℕ) → AllDiffer site segment ns → None ≡ thing_among segment site ns
 none_among site [] segment differ = refl
 none_among site (n ∷ ns) segment differ = rw differ.0 (none_among site ns segment differ.1)
 
 -- where a search ends between two
-abbrev Parted : Site → List ℕ → List ℕ → ℕ → Type 0
+abbrev Parted : List ExposedThing → List ℕ → List ℕ → ℕ → Type 0
 Parted site segment ns place = IsPartitionPoint (λ n. segment_order site segment n ≡ Less) (λ n. segment_order site segment n ≡ Greater) ns place
 
-abbrev IsBetween : Site → List ℕ → List ℕ → ℕ → Type 0
+abbrev IsBetween : List ExposedThing → List ℕ → List ℕ → ℕ → Type 0
 IsBetween site segment ns place = IsNonDecreasingBy (λ n. ordering_index (segment_order site segment n)) ns → Parted site segment ns place
 
-parted_differ : (site : Site) (ns segment : List ℕ) (place : ℕ) → Parted site segment ns place → AllDiffer site segment ns
+parted_differ : (site : List ExposedThing) (ns segment : List ℕ) (place : ℕ) → Parted site segment ns place → AllDiffer site segment ns
 parted_differ site ns segment place parts = all_of ns (λ k d within. elim (cases_lt k place) [
   | inl below ↦ test_of (segment_at site (get_or ns k d)) segment Less (parts.0 k d (omega arith) below)
   | inr above ↦ test_of (segment_at site (get_or ns k d)) segment Greater (parts.1 k d above within)
@@ -81,11 +81,11 @@ parted_differ site ns segment place parts = all_of ns (λ k d within. elim (case
     all_of [] each = tt
     all_of (m ∷ ms) each = (each 0 0 (omega arith), all_of ms (λ k d within. each (suc k) d (omega arith)))
 
-pub found_thing : (site things : Site) (ns segment : List ℕ) (i d : ℕ) → Indexes site ns things → i < length ns → HoldsAt (λ m. segment_order site segment m ≡ Equal) ns i
+pub found_thing : (site things : List ExposedThing) (ns segment : List ℕ) (i d : ℕ) → Indexes site ns things → i < length ns → HoldsAt (λ m. segment_order site segment m ≡ Equal) ns i
     → slice_get site (get_or ns i d) ≡ thing_named segment things
 found_thing site things ns segment i d index within equal = found_among site ns segment i d index.rise within (equal d) ∙ sym (index.same segment)
 
-pub missing_thing : (site things : Site) (ns segment : List ℕ) (i : ℕ) → Indexes site ns things → IsBetween site segment ns i → None ≡ thing_named segment things
+pub missing_thing : (site things : List ExposedThing) (ns segment : List ℕ) (i : ℕ) → Indexes site ns things → IsBetween site segment ns i → None ≡ thing_named segment things
 missing_thing site things ns segment i index between =
     none_among site ns segment (parted_differ site ns segment i (between (segments_rise site ns segment index.rise))) ∙ sym (index.same segment)
 
@@ -97,7 +97,7 @@ all_inserted P [] (suc place) m all one = (one, tt)
 all_inserted P (n ∷ ns) zero m all one = (one, all)
 all_inserted P (n ∷ ns) (suc place) m all one = (all.0, all_inserted P ns place m all.1 one)
 
-rise_inserted : (site : Site) (ns : List ℕ) (place m : ℕ) → SegmentsRise site ns → Parted site (segment_at site m) ns place → SegmentsRise site (insert ns place m)
+rise_inserted : (site : List ExposedThing) (ns : List ℕ) (place m : ℕ) → SegmentsRise site ns → Parted site (segment_at site m) ns place → SegmentsRise site (insert ns place m)
 rise_inserted site [] zero m rise parts = (tt, tt)
 rise_inserted site [] (suc place) m rise parts = (tt, tt)
 rise_inserted site (n ∷ ns) zero m rise parts = (all_of (n ∷ ns) (λ k d within. parts.1 k d (omega arith) within), rise)
@@ -112,7 +112,7 @@ rise_inserted site (n ∷ ns) (suc place) m rise parts = (
 )
 
 -- another segment leads where it led
-other_among : (site : Site) (ns segment : List ℕ) (place m : ℕ) → bytes_eq segment (segment_at site m) ≡ false → thing_among segment site (insert ns place m) ≡ thing_among segment site ns
+other_among : (site : List ExposedThing) (ns segment : List ℕ) (place m : ℕ) → bytes_eq segment (segment_at site m) ≡ false → thing_among segment site (insert ns place m) ≡ thing_among segment site ns
 other_among site [] segment zero m other = rw other refl
 other_among site [] segment (suc place) m other = rw other refl
 other_among site (n ∷ ns) segment zero m other = rw other refl
@@ -120,7 +120,7 @@ other_among site (n ∷ ns) segment (suc place) m other =
     ap (λ (o : Option ExposedThing). cond (bytes_eq segment (segment_at site n)) (slice_get site n) o) (other_among site ns segment place m other)
 
 -- its own segment leads to it
-own_among : (site : Site) (ns segment : List ℕ) (place m : ℕ) → bytes_eq segment (segment_at site m) ≡ true → AllDiffer site segment ns → thing_among segment site (insert ns place m) ≡ slice_get site m
+own_among : (site : List ExposedThing) (ns segment : List ℕ) (place m : ℕ) → bytes_eq segment (segment_at site m) ≡ true → AllDiffer site segment ns → thing_among segment site (insert ns place m) ≡ slice_get site m
 own_among site [] segment zero m own differ = rw own refl
 own_among site [] segment (suc place) m own differ = rw own refl
 own_among site (n ∷ ns) segment zero m own differ = rw own refl
@@ -128,18 +128,18 @@ own_among site (n ∷ ns) segment (suc place) m own differ = rw differ.0 (own_am
 
 -- one Thing more
 
-standing : (site : Site) (k : ℕ) (t : ExposedThing) → slice_get site k ≡ Some t → take (k + 1) site ≡ take k site ++ t ∷ []
+standing : (site : List ExposedThing) (k : ℕ) (t : ExposedThing) → slice_get site k ≡ Some t → take (k + 1) site ≡ take k site ++ t ∷ []
 standing [] k t given = absurd cc
 standing (u ∷ site) zero t given = ap (λ (x : ExposedThing). x ∷ []) (same_Some u t given)
 standing (u ∷ site) (suc k) t given =
     let e : suc (k + 1) ≡ suc k + 1 = omega arith in
-    subst (λ (n : ℕ). take n (u ∷ site) ≡ u ∷ (take k site ++ t ∷ [])) e (ap (λ (l : Site). u ∷ l) (standing site k t given))
+    subst (λ (n : ℕ). take n (u ∷ site) ≡ u ∷ (take k site ++ t ∷ [])) e (ap (λ (l : List ExposedThing). u ∷ l) (standing site k t given))
 
-named_other : (segment : List ℕ) (xs : Site) (t : ExposedThing) → bytes_eq segment t.segment ≡ false → thing_named segment (xs ++ t ∷ []) ≡ thing_named segment xs
+named_other : (segment : List ℕ) (xs : List ExposedThing) (t : ExposedThing) → bytes_eq segment t.segment ≡ false → thing_named segment (xs ++ t ∷ []) ≡ thing_named segment xs
 named_other segment [] t other = rw other refl
 named_other segment (x ∷ xs) t other = ap (λ (o : Option ExposedThing). cond (bytes_eq segment x.segment) (Some x) o) (named_other segment xs t other)
 
-named_before : (segment : List ℕ) (xs : Site) (t u : ExposedThing) → thing_named segment xs ≡ Some u → thing_named segment (xs ++ t ∷ []) ≡ Some u
+named_before : (segment : List ℕ) (xs : List ExposedThing) (t u : ExposedThing) → thing_named segment xs ≡ Some u → thing_named segment (xs ++ t ∷ []) ≡ Some u
 named_before segment [] t u is = absurd cc
 named_before segment (x ∷ xs) t u is = by_test (named_before segment xs t u) (bytes_eq segment x.segment) is
   where
@@ -148,7 +148,7 @@ named_before segment (x ∷ xs) t u is = by_test (named_before segment xs t u) (
     by_test further true here = here
     by_test further false here = further here
 
-named_last : (segment : List ℕ) (xs : Site) (t : ExposedThing) → bytes_eq segment t.segment ≡ true → thing_named segment xs ≡ None → thing_named segment (xs ++ t ∷ []) ≡ Some t
+named_last : (segment : List ℕ) (xs : List ExposedThing) (t : ExposedThing) → bytes_eq segment t.segment ≡ true → thing_named segment xs ≡ None → thing_named segment (xs ++ t ∷ []) ≡ Some t
 named_last segment [] t own is = rw own refl
 named_last segment (x ∷ xs) t own is = by_test (named_last segment xs t own) (bytes_eq segment x.segment) is
   where
@@ -158,7 +158,7 @@ named_last segment (x ∷ xs) t own is = by_test (named_last segment xs t own) (
     by_test further false here = further here
 
 -- an earlier one has its segment, and counts
-index_same : (site : Site) (ns : List ℕ) (k i : ℕ) (t : ExposedThing) → Indexes site ns (take k site) → slice_get site k ≡ Some t → i < length ns
+index_same : (site : List ExposedThing) (ns : List ℕ) (k i : ℕ) (t : ExposedThing) → Indexes site ns (take k site) → slice_get site k ≡ Some t → i < length ns
     → HoldsAt (λ m. segment_order site (segment_at site k) m ≡ Equal) ns i → Indexes site ns (take (k + 1) site)
 index_same site ns k i t index given within equal = record {
   rise = index.rise;
@@ -189,7 +189,7 @@ index_same site ns k i t index given within equal = record {
     ]
 
 -- none has its segment, and it is put in
-index_new : (site : Site) (ns : List ℕ) (k place : ℕ) (t : ExposedThing) → Indexes site ns (take k site) → slice_get site k ≡ Some t → k < length site
+index_new : (site : List ExposedThing) (ns : List ℕ) (k place : ℕ) (t : ExposedThing) → Indexes site ns (take k site) → slice_get site k ≡ Some t → k < length site
     → IsBetween site (segment_at site k) ns place → Indexes site (insert ns place k) (take (k + 1) site)
 index_new site ns k place t index given within between = record {
   rise = rise_inserted site ns place k index.rise parts;
@@ -213,14 +213,14 @@ index_new site ns k place t index given within between = record {
         ∙ sym given ∙ sym (own_among site ns segment place k (ap (bytes_eq segment) mine ∙ e) differ)
 
 -- a Thing of this number is there
-there : (site : Site) (k : ℕ) → k < length site → (t : ExposedThing) × (slice_get site k ≡ Some t)
+there : (site : List ExposedThing) (k : ℕ) → k < length site → (t : ExposedThing) × (slice_get site k ≡ Some t)
 there site k within = elim (slice_get_cases site k).1 [
   | inl stands ↦ (stands.0, stands.2)
   | inr past ↦ absurd (omega (arith, past.0, within))
 ]
 
 -- the same after a search in the index that the code has, for the segment that it reads
-pub added_same : (site : Site) (ns ms segment : List ℕ) (k i : ℕ) → Indexes site ns (take k site) → k < length site → ms ≡ ns → segment ≡ segment_at site k → i < length ms
+pub added_same : (site : List ExposedThing) (ns ms segment : List ℕ) (k i : ℕ) → Indexes site ns (take k site) → k < length site → ms ≡ ns → segment ≡ segment_at site k → i < length ms
     → HoldsAt (λ m. segment_order site segment m ≡ Equal) ms i → Indexes site ns (take (k + 1) site)
 added_same site ns ms segment k i index within same own inside equal =
     let t = there site k within in
@@ -228,7 +228,7 @@ added_same site ns ms segment k i index within same own inside equal =
     (subst (λ (l : List ℕ). HoldsAt (λ m. segment_order site (segment_at site k) m ≡ Equal) l i) same
     (subst (λ (s : List ℕ). HoldsAt (λ m. segment_order site s m ≡ Equal) ms i) own equal))
 
-pub added_new : (site : Site) (ns ms segment : List ℕ) (k place : ℕ) → Indexes site ns (take k site) → k < length site → ms ≡ ns → segment ≡ segment_at site k
+pub added_new : (site : List ExposedThing) (ns ms segment : List ℕ) (k place : ℕ) → Indexes site ns (take k site) → k < length site → ms ≡ ns → segment ≡ segment_at site k
     → (IsNonDecreasingBy (λ n. ordering_index (segment_order site segment n)) ms → IsPartitionPoint (λ n. segment_order site segment n ≡ Less) (λ n. segment_order site segment n ≡ Greater) ms place)
     → Indexes site (insert ns place k) (take (k + 1) site)
 added_new site ns ms segment k place index within same own between =
@@ -236,28 +236,28 @@ added_new site ns ms segment k place index within same own between =
     index_new site ns k place t.0 index t.1 within
     (subst (λ (l : List ℕ). IsBetween site (segment_at site k) l place) same (subst (λ (s : List ℕ). IsBetween site s ms place) own between))
 
-pub no_index : (site : Site) → Indexes site [] (take 0 site)
+pub no_index : (site : List ExposedThing) → Indexes site [] (take 0 site)
 no_index site = record { rise = tt; stand = tt; same = λ segment. refl }
 
-pub whole_index : (site : Site) (ns : List ℕ) (k : ℕ) → length site ≤ k → Indexes site ns (take k site) → Indexes site ns site
-whole_index site ns k past index = subst (λ (l : Site). Indexes site ns l) (take_all k site past) index
+pub whole_index : (site : List ExposedThing) (ns : List ℕ) (k : ℕ) → length site ≤ k → Indexes site ns (take k site) → Indexes site ns site
+whole_index site ns k past index = subst (λ (l : List ExposedThing). Indexes site ns l) (take_all k site past) index
 
 -- ---- what is found, and what isn't, as slices show Things and index
 
-pub thing_found : (site shown whole : Site) (ns seen segment : List ℕ) (i n : ℕ) (t : ExposedThing) → Indexes site ns site → site ≡ whole → shown ≡ site → seen ≡ ns → i < length seen → HoldsAt (λ m. segment_order shown segment m ≡ Equal) seen i
+pub thing_found : (site shown whole : List ExposedThing) (ns seen segment : List ℕ) (i n : ℕ) (t : ExposedThing) → Indexes site ns site → site ≡ whole → shown ≡ site → seen ≡ ns → i < length seen → HoldsAt (λ m. segment_order shown segment m ≡ Equal) seen i
     → n ≡ get_or ns i n → t ≡ get_or site n t → Some t ≡ thing_named segment whole
 thing_found site shown whole ns seen segment i n t index whole_is shown_is seen_is within equal at is =
     let inside : i < length ns = subst (λ (ms : List ℕ). i < length ms) seen_is within in
     let same : HoldsAt (λ m. segment_order site segment m ≡ Equal) ns i =
     subst (λ (ms : List ℕ). HoldsAt (λ m. segment_order site segment m ≡ Equal) ms i) seen_is
-    (subst (λ (s : Site). HoldsAt (λ m. segment_order s segment m ≡ Equal) seen i) shown_is equal) in
+    (subst (λ (s : List ExposedThing). HoldsAt (λ m. segment_order s segment m ≡ Equal) seen i) shown_is equal) in
     let stands : n < length site = subst (λ (m : ℕ). m < length site) (sym at) (at_place (λ m. m < length site) ns i n index.stand inside) in
     sym (slice_get_read site (length site) n t refl stands is)
     ∙ ap (λ (m : ℕ). slice_get site m) at
     ∙ found_thing site site ns segment i n index inside same
-    ∙ ap (λ (s : Site). thing_named segment s) whole_is
+    ∙ ap (λ (s : List ExposedThing). thing_named segment s) whole_is
 
-pub thing_missing : (site shown whole : Site) (ns seen segment : List ℕ) (i : ℕ) → Indexes site ns site → site ≡ whole → shown ≡ site → seen ≡ ns → IsBetween shown segment seen i → None ≡ thing_named segment whole
+pub thing_missing : (site shown whole : List ExposedThing) (ns seen segment : List ℕ) (i : ℕ) → Indexes site ns site → site ≡ whole → shown ≡ site → seen ≡ ns → IsBetween shown segment seen i → None ≡ thing_named segment whole
 thing_missing site shown whole ns seen segment i index whole_is shown_is seen_is between =
-    missing_thing site site ns segment i index (subst (λ (ms : List ℕ). IsBetween site segment ms i) seen_is (subst (λ (s : Site). IsBetween s segment seen i) shown_is between))
-    ∙ ap (λ (s : Site). thing_named segment s) whole_is
+    missing_thing site site ns segment i index (subst (λ (ms : List ℕ). IsBetween site segment ms i) seen_is (subst (λ (s : List ExposedThing). IsBetween s segment seen i) shown_is between))
+    ∙ ap (λ (s : List ExposedThing). thing_named segment s) whole_is

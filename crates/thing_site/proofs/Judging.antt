@@ -14,7 +14,7 @@ use Rattle.wot_terms.specs.declared.affordance.Affordance.{Affordance}
 use Rattle.thing_site.specs.declared.fault.ExposeFault.{ExposeFault}
 use Rattle.thing_site.specs.declared.fault.ExposeFault.TheVariants.{NoSlot, KindDiffers, SlotTwice, NoMemory}
 use Rattle.thing_site.specs.declared.wanted.Wanted.{Wanted}
-use Rattle.thing_site.specs.Site.{Slots, ExposedThing, exposed, placed, site_of, wanted_by, wanted_of_thing, wanted_of, expose_faults, faults_from, slots_in}
+use Rattle.thing_site.specs.Site.{Slots, ExposedThing, exposed, placed, exposed_all, wanted_by, wanted_of_thing, wanted_of, expose_faults, faults_from, slots_in}
 use Rattle.thing_site.specs.Exposing.{placed_all, ArePlaced, IsFirst, IsJudged, IsPlaced, HaveNoFault, HaveFault, slot_or_0}
 
 -- the head of a list of faults is their first
@@ -91,15 +91,15 @@ valid_rest things i item within valid = (valid_ones things i item within valid).
 
 -- the site grows by it
 pub site_grows : (slots : Slots) (things : List Thing) (i : ℕ) (item : Thing) (held more : List ExposedThing) (one : ExposedThing)
-    → held ++ site_of slots (kept_things (drop i things)) ≡ site_of slots (kept_things things)
+    → held ++ exposed_all slots (kept_things (drop i things)) ≡ exposed_all slots (kept_things things)
     → i < length things → item ≡ get_or things i item → one ≡ exposed slots (kept_thing item) → more ≡ held ++ one ∷ []
-    → more ++ site_of slots (kept_things (drop (i + 1) things)) ≡ site_of slots (kept_things things)
+    → more ++ exposed_all slots (kept_things (drop (i + 1) things)) ≡ exposed_all slots (kept_things things)
 site_grows slots things i item held more one so_far within at same grown =
-    let rest = site_of slots (kept_things (drop (i + 1) things)) in
+    let rest = exposed_all slots (kept_things (drop (i + 1) things)) in
     ap (λ (hs : List ExposedThing). hs ++ rest) grown
     ∙ append_assoc held (one ∷ []) rest
     ∙ ap (λ (t : ExposedThing). held ++ t ∷ rest) (same ∙ ap (λ (t : Thing). exposed slots (kept_thing t)) at)
-    ∙ ap (λ (ts : List ExposedThing). held ++ ts) (sym (at_drop_more (λ (ts : List Thing). site_of slots (kept_things ts)) things i item within))
+    ∙ ap (λ (ts : List ExposedThing). held ++ ts) (sym (at_drop_more (λ (ts : List Thing). exposed_all slots (kept_things ts)) things i item within))
     ∙ so_far
 
 -- it has no fault, and those after it have what is left
@@ -116,12 +116,12 @@ faults_left kinds slots things earlier after i item clear within at none =
 
 -- none is left
 pub all_placed : (kinds : List Kind) (slots : Slots) (things : List Thing) (held : List ExposedThing) (earlier : List ℕ) (i : ℕ)
-    → held ++ site_of slots (kept_things (drop i things)) ≡ site_of slots (kept_things things)
+    → held ++ exposed_all slots (kept_things (drop i things)) ≡ exposed_all slots (kept_things things)
     → faults_from kinds [] (wanted_of slots (kept_things things)) ≡ faults_from kinds earlier (wanted_of slots (kept_things (drop i things)))
     → length things ≤ i → ArePlaced kinds slots (kept_things things) held
 all_placed kinds slots things held earlier i so_far clear done = (
   sym (append-nil held)
-      ∙ ap (λ (ts : List ExposedThing). held ++ ts) (sym (at_drop_all (λ (ts : List Thing). site_of slots (kept_things ts)) things i done))
+      ∙ ap (λ (ts : List ExposedThing). held ++ ts) (sym (at_drop_all (λ (ts : List Thing). exposed_all slots (kept_things ts)) things i done))
       ∙ so_far,
   clear ∙ at_drop_all (λ (ts : List Thing). faults_from kinds earlier (wanted_of slots (kept_things ts))) things i done,
 )

@@ -7,7 +7,7 @@ use Rattle.thing_handler.specs.Handler.{Seen}
 use Rattle.thing_site.specs.declared.fault.ExposeFault.{ExposeFault}
 use Rattle.thing_site.specs.declared.fault.ExposeFault.TheVariants.{NoSlot, KindDiffers, SlotTwice, NoMemory}
 use Rattle.thing_site.specs.declared.wanted.Wanted.{Wanted}
-use Rattle.thing_site.specs.Site.{Placed, ExposedThing, Slots, exposed, site_of, wanted_of_thing, fault_of, faults_from, expose_faults}
+use Rattle.thing_site.specs.Site.{Placed, ExposedThing, Slots, exposed, exposed_all, wanted_of_thing, fault_of, faults_from, expose_faults}
 
 -- the kinds of the handlers of a rack
 abbrev pub kinds_of : List Seen → List Kind
@@ -53,4 +53,4 @@ IsPlaced kinds slots thing earlier after (Err fault) = HaveFault kinds earlier (
 
 -- the Things as they are exposed, where nothing is wrong, or the first fault
 abbrev pub ArePlaced : List Kind → Slots → List (List ℕ × Json) → List ExposedThing → Type 0
-ArePlaced kinds slots things held = (held ≡ site_of slots things) × (expose_faults kinds slots things ≡ [])
+ArePlaced kinds slots things held = (held ≡ exposed_all slots things) × (expose_faults kinds slots things ≡ [])

@@ -12,4 +12,4 @@ abbrev pub ThingFits : List Seen → ExposedThing → Type 0
 ThingFits slots thing = AllByRecursion (FitsSlot slots) thing.affordances
 
 abbrev pub Fits : Site → List Seen → Type 0
-Fits site slots = AllByRecursion (ThingFits slots) site
+Fits site slots = AllByRecursion (ThingFits slots) site.things

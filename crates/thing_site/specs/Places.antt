@@ -18,7 +18,7 @@ use Rattle.thing_site.specs.Site.{Placed, ExposedThing, Site, thing_named, affor
 
 -- the Thing that the first segment names, and its affordance of this kind that the third names
 abbrev pub thing_in : List (List ℕ) → Site → Option ExposedThing
-thing_in path site = option_and_then (λ segment. thing_named segment site) (slice_get path 0)
+thing_in path site = option_and_then (λ segment. thing_named segment site.things) (slice_get path 0)
 
 abbrev pub affordance_in : Kind → List (List ℕ) → Site → Option Placed
 affordance_in k path site =
@@ -30,7 +30,7 @@ where_observable p = if p.affordance.observable then Some (place.Observed p) els
 
 -- the place of a path of this form; that of an invocation, whether there is one of this id or not
 abbrev pub place_at : RouteKind → List (List ℕ) → Site → Option Resource
-place_at route.Root path site = option_map place.Description (slice_get site 0)
+place_at route.Root path site = option_map place.Description (slice_get site.things 0)
 place_at route.Thing path site = option_map place.Description (thing_in path site)
 place_at route.All path site = option_map place.AllProperties (thing_in path site)
 place_at route.Property path site = option_map place.Property (affordance_in kind.Property path site)

@@ -1,5 +1,5 @@
--- Things as they are exposed: each with its description, its affordances and the slots of their handlers. This is
--- what is constant in a run.
+-- Things as they are exposed: each with its description, its affordances and the slots of their handlers; and the
+-- versions that a run leaves out. This is what is constant in a run.
 use Rattle.std.specs.Prelude.{ℕ, List, [], ◌∷◌, ◌++◌, map, slice_get, Bool, true, false, ◌==◌, ◌&&◌, is_none, Option, Some, None, option_and_then, unwrap_or, if◌then◌else◌}
 use Rattle.std.specs.List.{flat_map, filter}
 use Rattle.std.specs.Str.{bytes_eq}
@@ -26,9 +26,11 @@ pub record ExposedThing : Type 0 where
   pub description : Json
   pub affordances : List Placed
 
--- the Things, of which the first is the root
-abbrev pub Site : Type 0
-Site = List ExposedThing
+-- The Things, of which the first is the root; and the versions of properties that this run leaves out, since an earlier
+-- one may have sent them as tags: those up to this number.
+pub record Site : Type 0 where
+  pub things : List ExposedThing
+  pub left_out : ℕ
 
 -- the handlers of affordances: the segment of a Thing, the pointer to an affordance in its description, a slot
 abbrev pub Slots : Type 0
@@ -56,8 +58,12 @@ exposed slots thing = record {
   affordances = map (placed slots thing.0) (affordances_of thing.1);
 }
 
-abbrev pub site_of : Slots → List (List ℕ × Json) → Site
-site_of slots = map (exposed slots)
+abbrev pub exposed_all : Slots → List (List ℕ × Json) → List ExposedThing
+exposed_all slots = map (exposed slots)
+
+-- where versions up to this number are left out
+abbrev pub site_of : ℕ → Slots → List (List ℕ × Json) → Site
+site_of left_out slots things = record { things = exposed_all slots things; left_out = left_out }
 
 -- ---- why Things and slots don't fit a rack
 
@@ -119,7 +125,7 @@ expose_faults kinds slots things = faults_from kinds [] (wanted_of slots things)
 -- ---- what is where
 
 -- the Thing of this segment
-abbrev pub thing_named : List ℕ → Site → Option ExposedThing
+abbrev pub thing_named : List ℕ → List ExposedThing → Option ExposedThing
 thing_named segment [] = None
 thing_named segment (thing ∷ things) = if bytes_eq segment thing.segment then Some thing else thing_named segment things
 
@@ -136,7 +142,7 @@ of_kind k p = is_kind k p.affordance.kind
 abbrev pub those_of : Kind → ExposedThing → List Placed
 those_of k thing = filter (of_kind k) thing.affordances
 
-abbrev pub events_of : Site → List Placed
+abbrev pub events_of : List ExposedThing → List Placed
 events_of = flat_map (those_of kind.Event)
 
 -- An observable property and each event may emit (TD 1.1, sections 5.3.1.3 and 5.3.1.5).
@@ -146,5 +152,5 @@ is_emitter p = if is_kind kind.Event p.affordance.kind then true else is_kind ki
 abbrev pub emitters_of_thing : ExposedThing → List Placed
 emitters_of_thing thing = filter is_emitter thing.affordances
 
-abbrev pub emitters_of : Site → List Placed
+abbrev pub emitters_of : List ExposedThing → List Placed
 emitters_of = flat_map emitters_of_thing

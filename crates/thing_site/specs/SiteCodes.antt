@@ -18,5 +18,9 @@ thing_code =
     code_by ThingParts (coded× (coded_list coded_ℕ) (coded× json_code (coded_list placed_code)))
     (λ t. (t.segment, (t.description, t.affordances))) (λ q. record { segment = q.0; description = q.1.0; affordances = q.1.1 }) (λ _. refl)
 
+abbrev pub SiteParts : Type 0
+SiteParts = List ExposedThing × ℕ
+
 abbrev pub site_code : Coded Site
-site_code = coded_list thing_code
+site_code =
+    code_by SiteParts (coded× (coded_list thing_code) coded_ℕ) (λ s. (s.things, s.left_out)) (λ q. record { things = q.0; left_out = q.1 }) (λ _. refl)

@@ -1,4 +1,4 @@
-//! Things with an index, by which each is found by its segment.
+//! The site: Things with an index, by which each is found by its segment.
 
 ghost use Rattle.std.specs.Prelude.{◌≡◌, ◌<◌, ◌+◌, [], length, take, option_map, IfErr, IfOk, OnOk};
 ghost use Rattle.std.specs.List.{AllByRecursion};
@@ -17,12 +17,15 @@ use std::marker::Model;
 use thing_handler::Handlers;
 use wot_terms::Things;
 
-/// Things in their order, in which they are polled, with an index. Contracts see the Things.
+/// Things in their order, in which they are polled, with an index; and the versions that a run leaves out. Contracts see
+/// the site.
 #[derive(Drop)]
 pub struct IndexedThings {
     things: Vec<HeldThing>,
     /// The numbers of the Things, in the order of their segments. A Thing whose segment an earlier one has is left out.
     index: Vec<usize>,
+    /// Versions of properties up to this one are left out.
+    left_out: u32,
 }
 
 impl Model for IndexedThings {
@@ -34,48 +37,61 @@ impl Model for IndexedThings {
 
     ghost coded = { site_code };
 
-    ghost view = { λ t. t.things.items };
+    ghost view = { λ t. record { things = t.things.items; left_out = t.left_out } };
 
     ghost invariant = { λ t. Indexes t.things.items t.index.items t.things.items };
 }
 
 impl IndexedThings {
-    /// Things as they are exposed by these slots of a rack. It asks neither that there is a Thing, without which the
-    /// root leads nowhere, nor that segments differ: the first Thing of a segment counts.
+    /// Things as they are exposed by these slots of a rack, in a run that leaves out the versions up to `left_out`. It
+    /// asks neither that there is a Thing, without which the root leads nowhere, nor that segments differ: the first
+    /// Thing of a segment counts.
     pub fn new<R: Handlers>(
         alloc: Global,
         things: Things,
         slots: &Slots,
         rack: &R,
+        left_out: u32,
     ) -> Result<IndexedThings, ExposeFault>
         requires { AllByRecursion (λ t. IsValid t.1) things }
-        ensures ok { IfOk result (λ t. t ≡ site_of slots.now things) }
+        ensures ok { IfOk result (λ t. t ≡ site_of left_out slots.now things) }
         ensures faultless { OnOk result (expose_faults (kinds_of (R.slots rack.now)) slots.now things ≡ []) }
         ensures fits { IfOk result (λ t. Fits t (R.slots rack.now)) }
         ensures fault { IfErr result (λ fault. IsFirst (expose_faults (kinds_of (R.slots rack.now)) slots.now things) fault) }
     {
         let held = place_all(alloc, rack, slots, things.as_slice())?;
-        Ok(IndexedThings::of(alloc, held)?)
+        Ok(IndexedThings::of(alloc, held, left_out)?)
     }
 
     /// These Things, with their index.
-    fn of(alloc: Global, things: Vec<HeldThing>) -> Result<IndexedThings, NoMemory>
-        ensures { IfOk result (λ t. t ≡ things.items) }
+    fn of(alloc: Global, things: Vec<HeldThing>, left_out: u32) -> Result<IndexedThings, NoMemory>
+        ensures { IfOk result (λ t. t ≡ record { things = things.items; left_out = left_out }) }
     {
         let index = index_of(alloc, things.as_slice())?;
-        Ok(IndexedThings { things, index })
+        Ok(IndexedThings {
+            things,
+            index,
+            left_out,
+        })
     }
 
     /// The Things in their order.
     pub fn as_slice(&self) -> &[HeldThing]
-        ensures { result.now ≡ self.now }
+        ensures { result.now ≡ self.now.things }
     {
         self.things.as_slice()
     }
 
+    /// Versions of properties up to this one are left out.
+    pub fn left_out(&self) -> u32
+        ensures { result ≡ self.now.left_out }
+    {
+        self.left_out
+    }
+
     /// The Thing of this segment, found by binary search.
     pub fn named(&self, segment: &[u8]) -> Option<&HeldThing>
-        ensures { option_map (λ t. t.now) result ≡ thing_of segment.now self.now }
+        ensures { option_map (λ t. t.now) result ≡ thing_of segment.now self.now.things }
     {
         match search(self.things.as_slice(), self.index.as_slice(), segment) {
             Ok(place) => Some(&self.things[self.index[place]]),

@@ -12,11 +12,12 @@
 //! // The affordance `on` of the Thing `lamp` is served by the handler in slot 1 of the rack.
 //! let mut slots = Slots::new(alloc);
 //! slots.push(text("lamp"), text("/properties/on"), 1)?;
-//! let things = IndexedThings::new(alloc, derived, &slots, &rack)?;
+//! let things = IndexedThings::new(alloc, derived, &slots, &rack, 0)?;
 //! assert!(matches!(place_at(&things, &segments), Some(Place::Property(_))));
 //! ```
 //!
-//! Contracts see a site (`specs/Site.antt`): the Things, each with its affordances and the slots of their handlers.
+//! Contracts see a site (`specs/Site.antt`): the Things, each with its affordances and the slots of their handlers; and
+//! the versions of properties that the run leaves out.
 //! The contract in a sentence: `IndexedThings::new` is `site_of`, which fits the rack, or the first of
 //! `expose_faults`; what is found in it is what the site has there (`specs/Places.antt`), and a request is judged by
 //! the first of its refusals (`specs/Refusals.antt`). Judging is cut where the state begins: that no further invocation

@@ -13,7 +13,7 @@ use Rattle.thing_state.specs.Course.{Course}
 use Rattle.thing_state.specs.Calls.{Called, no_number, no_memory, gives, CallsFor, ComesAs, HasRoomAfter, MakesCall}
 
 -- the run has no number for another turn
-pub call_full : (c : Course) (slots : List Seen) (slot : ℕ) (what : CallKind) → c.state.turns ≡ most_turns → MakesCall slot what no_number c c slots slots
+pub call_full : (c : Course) (slots : List Seen) (slot : ℕ) (what : CallKind) → c.state.turns ≡ most_turns c.state.left_out → MakesCall slot what no_number c c slots slots
 call_full c slots slot what full = record {
   made = record { seen = []; move = (full, record { next = refl; saw = refl }); shows = rack_shows_in_order.none slots };
   pending = refl;
@@ -22,7 +22,7 @@ call_full c slots slot what full = record {
 }
 
 -- the handler is out of memory
-pub call_missed : (c : Course) (before after : List Seen) (slot : ℕ) (what : CallKind) (e : AllocError) → c.state.turns < most_turns
+pub call_missed : (c : Course) (before after : List Seen) (slot : ℕ) (what : CallKind) (e : AllocError) → c.state.turns < most_turns c.state.left_out
     → CallsHandler before after slot c.state.turns what (Err e) → MakesCall slot what no_memory c c before after
 call_missed c before after slot what e room made = record {
   made = record {
@@ -36,7 +36,7 @@ call_missed c before after slot what e room made = record {
 }
 
 -- it answers
-pub call_answered : (c d : Course) (before after : List Seen) (slot : ℕ) (what : CallKind) (a : Answer) → c.state.turns < most_turns
+pub call_answered : (c d : Course) (before after : List Seen) (slot : ℕ) (what : CallKind) (a : Answer) → c.state.turns < most_turns c.state.left_out
     → CallsHandler before after slot c.state.turns what (Ok a) → d ≡ record c { state = record c.state { turns = c.state.turns + 1 } }
     → MakesCall slot what (gives a) c d before after
 call_answered c d before after slot what a room made is = record {

@@ -40,14 +40,14 @@ silent_more last new p ps grown = by_test (is_emitter p) refl
 abbrev pub properties_among : List Placed → List Placed
 properties_among ps = filter (of_kind kind.Property) ps
 
-pub unseen_more : (versions new : List Version) (p : Placed) (ps : List Placed) → new ≡ versions ++ map unseen (properties_among (p ∷ []))
-    → versions ++ map unseen (properties_among (p ∷ ps)) ≡ new ++ map unseen (properties_among ps)
-unseen_more versions new p ps grown = by_test (of_kind kind.Property p) refl
+pub unseen_more : (left_out : ℕ) (versions new : List Version) (p : Placed) (ps : List Placed) → new ≡ versions ++ map (unseen left_out) (properties_among (p ∷ []))
+    → versions ++ map (unseen left_out) (properties_among (p ∷ ps)) ≡ new ++ map (unseen left_out) (properties_among ps)
+unseen_more left_out versions new p ps grown = by_test (of_kind kind.Property p) refl
   where
-    by_test : (b : Bool) → of_kind kind.Property p ≡ b → versions ++ map unseen (properties_among (p ∷ ps)) ≡ new ++ map unseen (properties_among ps)
+    by_test : (b : Bool) → of_kind kind.Property p ≡ b → versions ++ map (unseen left_out) (properties_among (p ∷ ps)) ≡ new ++ map (unseen left_out) (properties_among ps)
     by_test true e =
-        let one : new ≡ versions ++ unseen p ∷ [] = grown ∙ rw e refl in
-        rw (e, one) (sym (append_assoc versions (unseen p ∷ []) (map unseen (properties_among ps))))
+        let one : new ≡ versions ++ unseen left_out p ∷ [] = grown ∙ rw e refl in
+        rw (e, one) (sym (append_assoc versions (unseen left_out p ∷ []) (map (unseen left_out) (properties_among ps))))
     by_test false e =
         let same : new ≡ versions = grown ∙ rw e (append-nil versions) in
         rw (e, same) refl

@@ -29,10 +29,10 @@ pub data Called : Type 0 where
   gives : Answer → Called
 
 abbrev pub Calls : ℕ → CallKind → Called → Move
-Calls slot what no_number s seen t = (s.turns ≡ most_turns) × Stays s seen t
-Calls slot what no_memory s seen t = (s.turns < most_turns) × Becomes s (missed slot ∷ []) seen t
+Calls slot what no_number s seen t = (s.turns ≡ most_turns s.left_out) × Stays s seen t
+Calls slot what no_memory s seen t = (s.turns < most_turns s.left_out) × Becomes s (missed slot ∷ []) seen t
 Calls slot what (gives a) s seen t =
-    (s.turns < most_turns)
+    (s.turns < most_turns s.left_out)
     × Becomes (record s { turns = s.turns + 1 }) (answered (record { number = s.turns; slot = slot; what = what; answer = a }) ∷ []) seen t
 
 -- the outcome where that isn't a success of its act: a refusal and a fault of the device as they are; any other

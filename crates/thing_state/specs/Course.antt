@@ -1,5 +1,5 @@
 -- The view that contracts have of the state of a run, and its codes, as the kit asks in an `impl Model`.
-use Rattle.std.specs.Prelude.{◌≡◌, ◌≤◌, ◌<◌, ℕ, List, length, Option, Some, None, refl}
+use Rattle.std.specs.Prelude.{◌≡◌, ◌≤◌, ◌<◌, ◌+◌, ℕ, List, length, Option, Some, None, refl}
 use Rattle.std.specs.Coded.{Coded, code_by, coded×, coded_ℕ, coded_list, coded_option}
 use Rattle.thing_state.specs.declared.state.Progress.{Progress}
 use Rattle.thing_state.specs.declared.state.Progress.TheVariants as progress
@@ -29,9 +29,9 @@ abbrev pub FitsValue : Option (List ℕ) → Type 0
 FitsValue None = Unit {0}
 FitsValue (Some text) = length text ≤ longest_value
 
--- a turn more than any property has versions: a value may be seen
+-- a turn more than any property has versions of this run: a value may be seen
 abbrev pub HasRoom : State → Type 0
-HasRoom s = (slot : ℕ) → version_of slot s.versions < s.turns
+HasRoom s = (slot : ℕ) → version_of slot s.versions < s.left_out + s.turns
 
 -- ---- codes, as the kit asks in an `impl Model`
 
@@ -75,14 +75,14 @@ version_code =
     (λ q. record { slot = q.0; number = q.1.0; text = q.1.1 }) (λ _. refl)
 
 abbrev StateParts : Type 0
-StateParts = List Version × (List Invocation × (ℕ × (List LastValue × ℕ)))
+StateParts = List Version × (List Invocation × (ℕ × (List LastValue × (ℕ × ℕ))))
 
 abbrev pub state_code : Coded State
 state_code =
     code_by StateParts
-    (coded× (coded_list version_code) (coded× (coded_list invocation_code) (coded× coded_ℕ (coded× (coded_list latest_code) coded_ℕ))))
-    (λ s. (s.versions, (s.invocations, (s.next_invocation, (s.last, s.turns)))))
-    (λ q. record { versions = q.0; invocations = q.1.0; next_invocation = q.1.1.0; last = q.1.1.1.0; turns = q.1.1.1.1 }) (λ _. refl)
+    (coded× (coded_list version_code) (coded× (coded_list invocation_code) (coded× coded_ℕ (coded× (coded_list latest_code) (coded× coded_ℕ coded_ℕ)))))
+    (λ s. (s.versions, (s.invocations, (s.next_invocation, (s.last, (s.turns, s.left_out))))))
+    (λ q. record { versions = q.0; invocations = q.1.0; next_invocation = q.1.1.0; last = q.1.1.1.0; turns = q.1.1.1.1.0; left_out = q.1.1.1.1.1 }) (λ _. refl)
 
 abbrev CourseParts : Type 0
 CourseParts = State × (List ℕ × ℕ)

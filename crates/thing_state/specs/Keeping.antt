@@ -6,12 +6,12 @@ use Rattle.thing_state.specs.Ids.{AreCounted}
 use Rattle.thing_state.specs.declared.machine.Machine.TheInside.{Inside}
 
 -- the run has no more turns than it may, and each id that was used is one of them; a version counts turns of its
--- property; the ids of invocations rise, and are below the next; each invocation and each further one that may come has
--- a room; and all places were taken
+-- property, after those that are left out; the ids of invocations rise, and are below the next; each invocation and each
+-- further one that may come has a room; and all places were taken
 pub record IsKept (m : Inside) : Type 0 where
-  pub turns : m.turns ≤ most_turns
+  pub turns : m.turns ≤ most_turns m.left_out
   pub ids : m.next_invocation ≤ m.turns + 1
-  pub versions : (slot : ℕ) → version_of slot m.versions.items ≤ m.turns
+  pub versions : (slot : ℕ) → version_of slot m.versions.items ≤ m.left_out + m.turns
   pub counted : AreCounted m.next_invocation m.invocations.items
   pub rooms : vec_len m.invocations + vec_len m.spare ≡ most_invocations
   pub invocation_places : most_invocations ≤ vec_capacity m.invocations

@@ -1,9 +1,9 @@
 -- The state of the Thing machine: what its devices don't keep themselves.
-use Rattle.std.specs.Prelude.{ℕ, ◌+◌, ◌==◌, List, [], ◌∷◌, ◌++◌, map, length, Bool, true, false, ◌&&◌, Option, Some, None, codes, decimal, if◌then◌else◌}
+use Rattle.std.specs.Prelude.{ℕ, ◌+◌, ◌-◌, ◌==◌, List, [], ◌∷◌, ◌++◌, map, length, Bool, true, false, ◌&&◌, Option, Some, None, codes, decimal, if◌then◌else◌}
 use Rattle.std.specs.List.{flat_map}
 use Rattle.std.specs.Str.{bytes_eq}
 use Rattle.wot_terms.specs.declared.kind.Kind.TheVariants as kind
-use Rattle.thing_site.specs.Site.{Placed, Site, emitters_of, those_of}
+use Rattle.thing_site.specs.Site.{Placed, ExposedThing, Site, emitters_of, those_of}
 
 -- ---- invocations of actions
 
@@ -119,40 +119,58 @@ abbrev pub version_of : ℕ → List Version → ℕ
 version_of slot [] = 0
 version_of slot (v ∷ versions) = if v.slot == slot then v.number else version_of slot versions
 
+-- The tag of the property in this slot: the number of its version where something was seen of it in this run, else 0,
+-- which no tag of a request is. So a tag of an earlier run isn't met by a property of which nothing was seen yet.
+abbrev pub tag_of_version : Version → ℕ
+tag_of_version v = elim v.text as (λ _. ℕ) [ None ↦ 0 | Some last ↦ v.number ]
+
+abbrev pub tag_of : ℕ → List Version → ℕ
+tag_of slot [] = 0
+tag_of slot (v ∷ versions) = if v.slot == slot then tag_of_version v else tag_of slot versions
+
 -- ---- the state
 
 -- The version of each property; the invocations, the oldest first; the id of the next invocation, counted over all
--- actions; the last value of each affordance that may emit; and how many turns the run has.
+-- actions; the last value of each affordance that may emit; how many turns the run has; and up to which number it leaves
+-- versions out, which is the site's and never changes.
 pub record State : Type 0 where
   pub versions : List Version
   pub invocations : List Invocation
   pub next_invocation : ℕ
   pub last : List LastValue
   pub turns : ℕ
+  pub left_out : ℕ
 
 abbrev pub silent : Placed → LastValue
 silent p = record { target = p.slot; text = None }
 
 -- all properties, in the order of Things and names
-abbrev pub properties_of : Site → List Placed
+abbrev pub properties_of : List ExposedThing → List Placed
 properties_of = flat_map (those_of kind.Property)
 
-abbrev pub unseen : Placed → Version
-unseen p = record { slot = p.slot; number = 0; text = None }
+-- nothing was seen of a property yet: its first version is the one after those that are left out
+abbrev pub unseen : ℕ → Placed → Version
+unseen left_out p = record { slot = p.slot; number = left_out; text = None }
 
 -- before the first request
 abbrev pub start : Site → State
 start site = record {
-  versions = map unseen (properties_of site);
+  versions = map (unseen site.left_out) (properties_of site.things);
   invocations = [];
   next_invocation = 1;
-  last = map silent (emitters_of site);
+  last = map silent (emitters_of site.things);
   turns = 0;
+  left_out = site.left_out;
 }
 
--- the most turns that a run may have
-abbrev pub most_turns : ℕ
-most_turns = 4294967295
+-- the greatest version: a version has 32 bits
+abbrev pub greatest_version : ℕ
+greatest_version = 4294967295
+
+-- The most turns that a run may have which leaves out the versions up to this number: a version rises by one with a turn
+-- at most.
+abbrev pub most_turns : ℕ → ℕ
+most_turns left_out = greatest_version - left_out
 
 -- ---- changes of it
 

@@ -7,7 +7,6 @@ ghost use Rattle.wot_json.specs.Meaning.{json_of};
 ghost use Rattle.thing_state.specs.Calls.{failure_of, gives, IsTaken, CallsFor, ComesAs, IsFired};
 
 use crate::machine::Machine;
-use crate::state::MOST_TURNS;
 use thing_handler::{Answer, CallKind, Handlers, Slot};
 use thing_ops::Outcome;
 use thing_site::{LONGEST_VALUE, is_accepted};
@@ -26,7 +25,7 @@ pub fn call<R: Handlers>(
     ensures { CallsFor (λ called. ComesAs called result) slot what.now machine.old machine.new (R.slots rack.old) (R.slots rack.new) }
 {
     let number = machine.turns;
-    if number == MOST_TURNS {
+    if number == machine.most_turns() {
         return Err(Outcome::CallsUsed);
     }
     let answer = rack.call(slot as usize, number, what)?;

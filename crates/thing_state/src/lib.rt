@@ -5,12 +5,12 @@
 //! answers; requests and polls (`thing_core`) are made of such calls and changes.
 //!
 //! ```text
-//! let versions = unseen_all(alloc, things.as_slice())?;
+//! let versions = unseen_all(alloc, things.as_slice(), left_out)?;
 //! let last = silent_all(alloc, things.as_slice())?;
-//! let mut machine = Machine::new(alloc, versions, last)?;
+//! let mut machine = Machine::new(alloc, versions, last, left_out)?;
 //! let answer = call(&mut machine, &mut rack, slot, &CallKind::Read)?;
 //! assert_eq!(machine.turns(), 1);
-//! assert_eq!(machine.see(slot, b"true"), 1);
+//! assert_eq!(machine.see(slot, b"true"), left_out + 1);
 //! ```
 //!
 //! Contracts see a state (`specs/State.antt`), with the emissions that wait to be handed out (`specs/Course.antt`). The

@@ -9,7 +9,7 @@ ghost use Rattle.thing_state.specs.Course.{FitsValue};
 ghost use Rattle.thing_state.specs.Ids.{IdsRise};
 
 use crate::room::TextRoom;
-use crate::state::{Invocation, LastValue, MOST_INVOCATIONS, place_by_id};
+use crate::state::{Invocation, LastValue, MOST_INVOCATIONS, MOST_TURNS, place_by_id};
 use crate::version::{Version, place_of_version};
 use servient_base::{NoMemory, Target};
 use std::alloc::Global;
@@ -33,6 +33,8 @@ pub struct Machine {
     last: Vec<LastValue>,
     /// The number of turns of the run.
     pub(crate) turns: u64,
+    /// Versions up to this one are left out.
+    left_out: u32,
     pending: VecDeque<Target>,
 }
 
@@ -53,6 +55,7 @@ impl Model for Machine {
         next_invocation = m.next_invocation;
         last = m.last.items;
         turns = m.turns;
+        left_out = m.left_out;
       };
       pending = m.pending.items;
       room = deque_capacity m.pending - deque_len m.pending;
@@ -65,19 +68,21 @@ impl Machine {
     ghost use Rattle.std.specs.Prelude.{◌≡◌, ◌≤◌, ◌<◌, ◌+◌, ◌-◌, ◌++◌, ◌∷◌, [], ℕ, length, option_map, IfOk, MatchOption, OnOk, OnErr};
     ghost use Rattle.thing_site.specs.Refusals.{longest_value};
     ghost use Rattle.thing_state.specs.State as spec;
-    ghost use Rattle.thing_state.specs.State.{most_turns, with_id_used, with_invocations, with_seen};
+    ghost use Rattle.thing_state.specs.State.{most_turns, tag_of, with_id_used, with_invocations, with_seen};
     ghost use Rattle.thing_state.specs.Course.{FitsValue, HasRoom};
     ghost use Rattle.thing_state.specs.Ids.{IdsRise};
 
-    /// Before the first request, where these are the properties and what may emit. All its memory is taken here.
+    /// Before the first request, where these are the properties and what may emit, and versions up to `left_out` are
+    /// left out. All its memory is taken here.
     pub fn new(
         alloc: Global,
         versions: Vec<Version>,
         last: Vec<LastValue>,
+        left_out: u32,
     ) -> Result<Machine, NoMemory>
-        requires { (slot : ℕ) → spec.version_of slot versions.items ≡ 0 }
+        requires { (slot : ℕ) → spec.version_of slot versions.items ≤ left_out }
         ensures state { IfOk result (λ m. m.state
-            ≡ record { versions = versions.items; invocations = []; next_invocation = 1; last = last.items; turns = 0 }) }
+            ≡ record { versions = versions.items; invocations = []; next_invocation = 1; last = last.items; turns = 0; left_out = left_out }) }
         ensures pending { IfOk result (λ m. m.pending ≡ []) }
     {
         let pending = VecDeque::with_capacity(alloc, last.len())?;
@@ -88,6 +93,7 @@ impl Machine {
             next_invocation: 1,
             last,
             turns: 0,
+            left_out,
             pending,
         })
     }
@@ -110,9 +116,16 @@ impl Machine {
     /// The number of turns that the run has.
     pub fn turns(&self) -> u64
         ensures turns { result ≡ self.now.state.turns }
-        ensures bound { result ≤ most_turns }
+        ensures bound { result ≤ most_turns self.now.state.left_out }
     {
         self.turns
+    }
+
+    /// The most turns that the run may have.
+    pub fn most_turns(&self) -> u64
+        ensures { result ≡ most_turns self.now.state.left_out }
+    {
+        MOST_TURNS - u64::from(self.left_out)
     }
 
     /// The id of the next invocation.
@@ -138,15 +151,12 @@ impl Machine {
         self.last.len()
     }
 
-    /// The version of the property in this slot.
-    pub fn version_of(&self, slot: Slot) -> u32
-        ensures { result ≡ spec.version_of slot self.now.state.versions }
+    /// The version of the property in this slot, where something was seen of it; else 0, which no tag is.
+    pub fn tag_of(&self, slot: Slot) -> u32
+        ensures { result ≡ tag_of slot self.now.state.versions }
     {
         match place_of_version(self.versions.as_slice(), slot) {
-            Some(index) => {
-                let version = &self.versions[index];
-                version.number
-            }
+            Some(index) => self.versions[index].tag(),
             None => 0,
         }
     }

@@ -12,13 +12,17 @@ use std::alloc::Global;
 use thing_site::{HeldThing, Spot, is_kind};
 use wot_terms::Kind;
 
-/// All properties, in the order of Things and names.
-pub fn unseen_all(alloc: Global, things: &[HeldThing]) -> Result<Vec<Version>, NoMemory>
-    ensures { IfOk result (λ versions. versions.items ≡ map unseen (properties_of things.now)) }
+/// All properties, in the order of Things and names, in a run that leaves out the versions up to `left_out`.
+pub fn unseen_all(
+    alloc: Global,
+    things: &[HeldThing],
+    left_out: u32,
+) -> Result<Vec<Version>, NoMemory>
+    ensures { IfOk result (λ versions. versions.items ≡ map (unseen left_out) (properties_of things.now)) }
 {
     let mut versions = Vec::new(alloc);
     for thing in things {
-        push_unseen(alloc, &mut versions, thing)?;
+        push_unseen(alloc, &mut versions, thing, left_out)?;
     }
     Ok(versions)
 }
@@ -28,8 +32,9 @@ fn push_unseen(
     alloc: Global,
     versions: &mut Vec<Version>,
     thing: &HeldThing,
+    left_out: u32,
 ) -> Result<(), NoMemory>
-    ensures { OnOk result (versions.new.items ≡ versions.old.items ++ map unseen (those_of kind.Property thing.now)) }
+    ensures { OnOk result (versions.new.items ≡ versions.old.items ++ map (unseen left_out) (those_of kind.Property thing.now)) }
 {
     for index in 0..thing.len() {
         // A match and not `let .. else`, since the proof cites that there is no such affordance.
@@ -37,7 +42,7 @@ fn push_unseen(
             Some(spot) => spot,
             None => return Ok(()),
         };
-        push_if_property(alloc, versions, &spot)?;
+        push_if_property(alloc, versions, &spot, left_out)?;
     }
     Ok(())
 }
@@ -47,11 +52,12 @@ fn push_if_property(
     alloc: Global,
     versions: &mut Vec<Version>,
     spot: &Spot<'_>,
+    left_out: u32,
 ) -> Result<(), NoMemory>
-    ensures { OnOk result (versions.new.items ≡ versions.old.items ++ map unseen (filter (of_kind kind.Property) (spot.now ∷ []))) }
+    ensures { OnOk result (versions.new.items ≡ versions.old.items ++ map (unseen left_out) (filter (of_kind kind.Property) (spot.now ∷ []))) }
 {
     if is_kind(Kind::Property, spot.affordance().kind) {
-        versions.push(Version::unseen(alloc, spot.slot())?)?;
+        versions.push(Version::unseen(alloc, spot.slot(), left_out)?)?;
     }
     Ok(())
 }

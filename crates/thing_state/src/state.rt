@@ -15,7 +15,8 @@ use thing_handler::Slot;
 /// The most invocations that may run at a time, and be there at a time.
 pub const MOST_INVOCATIONS: usize = 64;
 
-/// The most turns that a run may have, so that the ids of invocations and the versions of properties fit in 32 bits.
+/// The most turns that a run may have which leaves no versions out, so that the ids of invocations and the versions of
+/// properties fit in 32 bits.
 pub const MOST_TURNS: u64 = 4_294_967_295;
 
 /// The progress of an invocation.

@@ -1,7 +1,7 @@
 //! The version of a property, and the text of the value that was seen of it last.
 
 ghost use Rattle.std.specs.Prelude.{◌≡◌, ◌==◌, ◌<◌, ◌≤◌, length, position, IfOk};
-ghost use Rattle.thing_state.specs.State.{after_text, version_of as version_of_slot, versions_after, most_turns};
+ghost use Rattle.thing_state.specs.State.{after_text, greatest_version};
 ghost use Rattle.thing_site.specs.Refusals.{longest_value};
 
 use servient_base::NoMemory;
@@ -14,8 +14,10 @@ use thing_site::LONGEST_VALUE;
 #[derive(Debug, Drop)]
 pub struct Version {
     slot: Slot,
-    /// 0 where nothing was seen yet.
-    pub(crate) number: u32,
+    /// Versions up to this one are left out.
+    left_out: u32,
+    /// As `left_out` where nothing was seen yet.
+    number: u32,
     text: Vec<u8>,
 }
 
@@ -29,21 +31,24 @@ impl Model for Version {
 
     ghost coded = { version_code };
 
-    ghost view = { λ v. record { slot = v.slot; number = v.number; text = if v.number == 0 then None else Some v.text.items } };
+    ghost view = { λ v. record { slot = v.slot; number = v.number; text = if v.number == v.left_out then None else Some v.text.items } };
 
-    ghost invariant = { λ v. longest_value ≤ vec_capacity v.text };
+    ghost invariant = { λ v. (v.left_out ≤ v.number) × (longest_value ≤ vec_capacity v.text) };
 }
 
 impl Version {
     ghost use Rattle.std.specs.Prelude.{None};
+    ghost use Rattle.thing_state.specs.State.{tag_of_version};
 
-    /// That of the property in this slot, of which nothing was seen yet.
-    pub(crate) fn unseen(alloc: Global, slot: Slot) -> Result<Version, NoMemory>
-        ensures { IfOk result (λ v. v ≡ record { slot = slot; number = 0; text = None }) }
+    /// That of the property in this slot, of which nothing was seen yet, where the versions up to `left_out` are left
+    /// out.
+    pub(crate) fn unseen(alloc: Global, slot: Slot, left_out: u32) -> Result<Version, NoMemory>
+        ensures { IfOk result (λ v. v ≡ record { slot = slot; number = left_out; text = None }) }
     {
         Ok(Version {
             slot,
-            number: 0,
+            left_out,
+            number: left_out,
             text: Vec::with_capacity(alloc, LONGEST_VALUE)?,
         })
     }
@@ -51,17 +56,28 @@ impl Version {
     /// A value of this text is seen. The version's number afterwards.
     pub(crate) fn see(&mut self, text: &[u8]) -> u32
         requires length { length text.now ≤ longest_value }
-        requires room { self.old.number < most_turns }
+        requires room { self.old.number < greatest_version }
         ensures seen { self.new ≡ after_text text.now self.old }
         ensures number { result ≡ self.new.number }
     {
-        if self.number != 0 && self.text.as_slice() == text {
+        if self.number != self.left_out && self.text.as_slice() == text {
             return self.number;
         }
         self.number += 1;
         self.text.clear();
         self.text.extend_from_slice(text).unwrap();
         self.number
+    }
+
+    /// Its number where something was seen; else 0, which no tag is.
+    pub(crate) fn tag(&self) -> u32
+        ensures { result ≡ tag_of_version self.now }
+    {
+        if self.number == self.left_out {
+            0
+        } else {
+            self.number
+        }
     }
 }
 

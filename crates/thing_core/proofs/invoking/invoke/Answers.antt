@@ -7,11 +7,11 @@ use Rattle.thing_state.proofs.CallLaws.{call_full, makes_answered, makes_call}
 use Rattle.thing_core.proofs.InvokeLaws.{invoke_done, invoked_after, unanswered_invoke}
 use Rattle.thing_core.proofs.invoking.invoke.Goals as goal
 
-pub returns-then-turns-eq-MOST_TURNS : goal.returns-then-turns-eq-MOST_TURNS
-returns-then-turns-eq-MOST_TURNS g c = λ path place.
+pub returns-then-turns-most_turns : goal.returns-then-turns-most_turns
+returns-then-turns-most_turns g c = λ path place.
     invoke_done c.args.spot path c.args.inputs.items c.handed_in-input.result no_number outcome.CallsUsed c.args.machine.now c.args.machine.now c.args.machine.now
     (g.R.Handlers.slots c.args.rack.now) (g.R.Handlers.slots c.args.rack.now) c.handed_in-input.ensures
-    (call_full c.args.machine.now (g.R.Handlers.slots c.args.rack.now) c.args.spot.slot (call.Invoke c.args.machine.now.state.next_invocation c.handed_in-input.result) (sym c.turns.ensures.turns ∙ c.if-turns-eq-MOST_TURNS.true))
+    (call_full c.args.machine.now (g.R.Handlers.slots c.args.rack.now) c.args.spot.slot (call.Invoke c.args.machine.now.state.next_invocation c.handed_in-input.result) (sym c.turns.ensures.turns ∙ c.if-turns-most_turns.true ∙ c.most_turns.ensures))
     (refl, record { next = refl; saw = refl }) refl
 
 pub returns-in-Err : goal.returns-in-Err

@@ -4,6 +4,7 @@ use Rattle.std.specs.VecDeque.{deque_capacity, deque_len}
 use Rattle.std.proofs.lemmas.Result.{err_from_is_err_and}
 use Rattle.thing_ops.specs.declared.outcome.Outcome.TheVariants as outcome
 use Rattle.thing_handler.specs.Handler.{CallsHandler}
+use Rattle.thing_state.specs.State.{most_turns}
 use Rattle.thing_state.specs.Course.{Course}
 use Rattle.thing_state.specs.Calls.{no_number, no_memory, gives, ComesAs}
 use Rattle.thing_state.specs.declared.machine.Machine.TheInside.{Inside}
@@ -13,19 +14,19 @@ use Rattle.thing_state.proofs.calling.call.Goals as goal
 -- the view of a machine with this number of turns in the place of its own
 abbrev seen : Inside → ℕ → Course
 seen m turns = record {
-  state = record { versions = m.versions.items; invocations = m.invocations.items; next_invocation = m.next_invocation; last = m.last.items; turns = turns };
+  state = record { versions = m.versions.items; invocations = m.invocations.items; next_invocation = m.next_invocation; last = m.last.items; turns = turns; left_out = m.left_out };
   pending = m.pending.items;
   room = deque_capacity m.pending - deque_len m.pending;
 }
 
-pub returns-then-number-eq-MOST_TURNS : goal.returns-then-number-eq-MOST_TURNS
-returns-then-number-eq-MOST_TURNS g c =
+pub returns-then-number-most_turns : goal.returns-then-number-most_turns
+returns-then-number-most_turns g c =
     calls_for (λ called. ComesAs called (Err outcome.CallsUsed)) c.args.slot c.args.what.now no_number c.args.machine.now c.args.machine.now (g.R.Handlers.slots c.args.rack.now) (g.R.Handlers.slots c.args.rack.now) refl tt
-    (call_full c.args.machine.now (g.R.Handlers.slots c.args.rack.now) c.args.slot c.args.what.now (sym (ap (λ (k : Course). k.state.turns) c.machine.view_is) ∙ c.if-number-eq-MOST_TURNS.true))
+    (call_full c.args.machine.now (g.R.Handlers.slots c.args.rack.now) c.args.slot c.args.what.now (sym (ap (λ (k : Course). k.state.turns) c.machine.view_is) ∙ c.if-number-most_turns.true ∙ c.most_turns.ensures))
 
 pub invariant_of-machine : goal.invariant_of-machine
 invariant_of-machine g c = record {
-  turns = omega (arith, c.machine.invariant.turns, c.if-number-eq-MOST_TURNS.false);
+  turns = omega (arith, c.machine.invariant.turns, c.if-number-most_turns.false, c.most_turns.ensures, ap (λ (k : Course). most_turns k.state.left_out) c.machine.view_is);
   ids = omega (arith, c.machine.invariant.ids);
   versions = λ slot. omega (arith, c.machine.invariant.versions slot);
   counted = c.machine.invariant.counted;
@@ -43,7 +44,14 @@ returns g c =
     calls_for (λ called. ComesAs called (Ok c.in_ok-answer.answer)) c.args.slot c.args.what.now (gives c.in_ok-answer.answer) c.args.machine.now new (g.R.Handlers.slots c.args.rack.now) (g.R.Handlers.slots c.call.new.self) refl
     (λ slot. omega (arith, c.machine.invariant.versions slot))
     (call_answered c.args.machine.now new (g.R.Handlers.slots c.args.rack.now) (g.R.Handlers.slots c.call.new.self) c.args.slot c.args.what.now c.in_ok-answer.answer
-    (omega (arith, (ap (λ (k : Course). k.state.turns) c.machine.view_is), c.machine.invariant.turns, c.if-number-eq-MOST_TURNS.false))
+    (omega (
+      arith,
+      ap (λ (k : Course). k.state.turns) c.machine.view_is,
+      ap (λ (k : Course). most_turns k.state.left_out) c.machine.view_is,
+      c.machine.invariant.turns,
+      c.if-number-most_turns.false,
+      c.most_turns.ensures,
+    ))
     (subst (λ (n : ℕ). CallsHandler (g.R.Handlers.slots c.args.rack.now) (g.R.Handlers.slots c.call.new.self) c.args.slot n c.args.what.now (Ok c.in_ok-answer.answer)) (ap (λ (k : Course). k.state.turns) c.machine.view_is) c.in_ok-answer.ensures)
     counted)
 
@@ -53,5 +61,12 @@ returns-in_err-answer g c =
     rw (p.1, p.2)
     (calls_for (λ called. ComesAs called (Err outcome.Memory)) c.args.slot c.args.what.now no_memory c.args.machine.now c.args.machine.now (g.R.Handlers.slots c.args.rack.now) (g.R.Handlers.slots c.call.new.self) refl tt
     (call_missed c.args.machine.now (g.R.Handlers.slots c.args.rack.now) (g.R.Handlers.slots c.call.new.self) c.args.slot c.args.what.now c.in_err-answer.field-0.0
-    (omega (arith, (ap (λ (k : Course). k.state.turns) c.machine.view_is), c.machine.invariant.turns, c.if-number-eq-MOST_TURNS.false))
+    (omega (
+      arith,
+      ap (λ (k : Course). k.state.turns) c.machine.view_is,
+      ap (λ (k : Course). most_turns k.state.left_out) c.machine.view_is,
+      c.machine.invariant.turns,
+      c.if-number-most_turns.false,
+      c.most_turns.ensures,
+    ))
     (subst (λ (n : ℕ). CallsHandler (g.R.Handlers.slots c.args.rack.now) (g.R.Handlers.slots c.call.new.self) c.args.slot n c.args.what.now (Err c.in_err-answer.field-0.0)) (ap (λ (k : Course). k.state.turns) c.machine.view_is) c.in_err-answer.ensures)))

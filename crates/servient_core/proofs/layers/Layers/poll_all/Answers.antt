@@ -8,7 +8,7 @@ use Rattle.servient_core.proofs.layers.Layers.poll_all.Goals as goal
 
 pub loop-round-init : goal.loop-round-init
 loop-round-init g c =
-    polling_begins c.args.self.now c.new-round.result (outside (g.N.Net.seen c.args.net.now) (g.R.Handlers.slots c.args.rack.now)) (c.new-round.ensures c.args.self.now.exposed.site)
+    polling_begins c.args.self.now c.new-round.result (outside (g.N.Net.seen c.args.net.now) (g.R.Handlers.slots c.args.rack.now)) (c.new-round.ensures c.args.self.now.exposed.site.things)
     c.requires.ready c.requires.fits
 
 pub poll_next-requires-clause-ready : goal.poll_next-requires-clause-ready
@@ -21,7 +21,7 @@ pub loop-round-smaller : goal.loop-round-smaller
 loop-round-smaller g c =
     let v = outside (g.N.Net.seen c.loop-round.net) (g.R.Handlers.slots c.loop-round.rack) in
     let u = outside (g.N.Net.seen c.poll_next.new.net) (g.R.Handlers.slots c.poll_next.new.rack) in
-    subst (λ (site : Site). length (events_left c.poll_next.new.round site) < length (events_left c.loop-round.round c.loop-round.self.exposed.site)) (sym c.poll_next.ensures.site)
+    subst (λ (site : Site). length (events_left c.poll_next.new.round site.things) < length (events_left c.loop-round.round c.loop-round.self.exposed.site.things)) (sym c.poll_next.ensures.site)
     (polling_smaller c.loop-round.self c.poll_next.new.self c.loop-round.round c.poll_next.new.round v u
     (subst (λ (b : Bool). PollsOne c.poll_next.new.round c.loop-round.self c.poll_next.new.self v u b c.loop-round.round) c.loop-round-test.true c.poll_next.ensures.polled))
 

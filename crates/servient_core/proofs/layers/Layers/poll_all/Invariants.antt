@@ -10,4 +10,4 @@ invariant-loop-round g l =
     (outside (g.N.Net.seen l.initial.net) (g.R.Handlers.slots l.initial.rack)) (outside (g.N.Net.seen l.net) (g.R.Handlers.slots l.rack))
 
 abbrev pub decreases-loop-round : goal.decreases-loop-round
-decreases-loop-round g l = length (events_left l.round l.self.exposed.site)
+decreases-loop-round g l = length (events_left l.round l.self.exposed.site.things)

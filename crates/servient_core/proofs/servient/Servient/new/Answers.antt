@@ -21,7 +21,7 @@ returns-clause-start g c =
     record {
       moment = refl;
       http = search (rules, c.in_ok-http.ensures);
-      coap = coap_starts c.args.plan.now.slots c.as_slice.result.now c.args.things c.in-Ok.exposed.site c.args.plan.now.exchanges c.args.plan.now.epoch c.in_ok-coap.coap c.as_slice.ensures site c.in_ok-coap.ensures;
+      coap = coap_starts c.args.plan.now.versions c.args.plan.now.slots c.as_slice.result.now c.args.things c.in-Ok.exposed.site c.args.plan.now.exchanges c.args.plan.now.epoch c.in_ok-coap.coap c.as_slice.ensures site c.in_ok-coap.ensures;
       thing = search (rules, c.in-Ok.ensures.ok);
       directory = ap (standing_at 0) (search rules);
     }
@@ -29,5 +29,5 @@ returns-clause-start g c =
 pub returns-clause-links : goal.returns-clause-links
 returns-clause-links g c =
     let site = ap (λ (k : Kept). k.site) c.in-Ok.ensures.ok in
-    let coap = coap_starts c.args.plan.now.slots c.as_slice.result.now c.args.things c.in-Ok.exposed.site c.args.plan.now.exchanges c.args.plan.now.epoch c.in_ok-coap.coap c.as_slice.ensures site c.in_ok-coap.ensures in
-    links_stand c.args.plan.now.slots c.args.things c.in-Ok.exposed.site c.in_ok-coap.coap.links site (sym (ap (λ (x : Server). x.links) coap)) c.requires.plain
+    let coap = coap_starts c.args.plan.now.versions c.args.plan.now.slots c.as_slice.result.now c.args.things c.in-Ok.exposed.site c.args.plan.now.exchanges c.args.plan.now.epoch c.in_ok-coap.coap c.as_slice.ensures site c.in_ok-coap.ensures in
+    links_stand c.args.plan.now.versions c.args.plan.now.slots c.args.things c.in-Ok.exposed.site c.in_ok-coap.coap.links site (sym (ap (λ (x : Server). x.links) coap)) c.requires.plain

@@ -13,7 +13,7 @@ use Rattle.thing_state.proofs.machine.Machine.remove.Goals as goal
 -- the view of a machine with these invocations in the place of its own
 abbrev seen : Inside → List Invocation → Course
 seen m invocations = record {
-  state = record { versions = m.versions.items; invocations = invocations; next_invocation = m.next_invocation; last = m.last.items; turns = m.turns };
+  state = record { versions = m.versions.items; invocations = invocations; next_invocation = m.next_invocation; last = m.last.items; turns = m.turns; left_out = m.left_out };
   pending = m.pending.items;
   room = deque_capacity m.pending - deque_len m.pending;
 }

@@ -1,4 +1,4 @@
-use Rattle.std.proofs.Common.{◌≡◌, ◌<◌, ◌≤◌, ◌==◌, ◌∙◌, ℕ, List, Some, None, ap, sym, subst, arith, rules, slice_set}
+use Rattle.std.proofs.Common.{◌≡◌, ◌<◌, ◌≤◌, ◌+◌, ◌==◌, ◌∙◌, ℕ, List, Some, None, ap, sym, subst, arith, rules, slice_set}
 use Rattle.std.specs.Prelude.{position}
 use Rattle.thing_state.specs.State.{Version, version_of, versions_after}
 use Rattle.thing_state.specs.Course.{Course, HasRoom}
@@ -9,7 +9,7 @@ pub see-requires-clause-room : goal.see-requires-clause-room
 see-requires-clause-room c =
     let found : Some c.in-Some.index ≡ position (λ (v : Version). v.slot == c.args.slot) c.self.inside.versions.items =
     c.in-Some.ensures ∙ ap (λ (vs : List Version). position (λ (v : Version). v.slot == c.args.slot) vs) c.as_slice.ensures.value in
-    let below : version_of c.args.slot c.self.inside.versions.items < c.self.inside.turns =
+    let below : version_of c.args.slot c.self.inside.versions.items < c.self.inside.left_out + c.self.inside.turns =
     subst (λ (k : Course). HasRoom k.state) (sym c.self.view_is) c.requires.room c.args.slot in
     omega (arith, below, c.self.invariant.turns, version_at c.args.slot c.self.inside.versions.items c.in-Some.index c.index_mut.result.now found c.index_mut.ensures.value)
 
@@ -20,13 +20,13 @@ invariant_of-self c =
     let done : slice_set c.self.inside.versions.items c.in-Some.index c.see.new.self ≡ versions_after c.args.slot c.args.text.now c.self.inside.versions.items =
     ap (λ (x : Version). slice_set c.self.inside.versions.items c.in-Some.index x) c.see.ensures.seen
     ∙ seen_at c.args.slot c.args.text.now c.self.inside.versions.items c.in-Some.index c.index_mut.result.now found c.index_mut.ensures.value in
-    let below : (s : ℕ) → version_of s c.self.inside.versions.items < c.self.inside.turns =
+    let below : (s : ℕ) → version_of s c.self.inside.versions.items < c.self.inside.left_out + c.self.inside.turns =
     subst (λ (k : Course). HasRoom k.state) (sym c.self.view_is) c.requires.room in
     record {
       turns = c.self.invariant.turns;
       ids = c.self.invariant.ids;
-      versions = λ s. subst (λ (vs : List Version). version_of s vs ≤ c.self.inside.turns) (sym done)
-          (seen_within c.args.slot c.args.text.now c.self.inside.versions.items c.self.inside.turns below s);
+      versions = λ s. subst (λ (vs : List Version). version_of s vs ≤ c.self.inside.left_out + c.self.inside.turns) (sym done)
+          (seen_within c.args.slot c.args.text.now c.self.inside.versions.items (c.self.inside.left_out + c.self.inside.turns) below s);
       counted = c.self.invariant.counted;
       rooms = c.self.invariant.rooms;
       invocation_places = c.self.invariant.invocation_places;

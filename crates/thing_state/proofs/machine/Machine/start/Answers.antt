@@ -14,7 +14,7 @@ invariant_of-self c =
     let kept = c.self.invariant in
     let same : AreCounted s.next_invocation s.invocations.items × (s.turns ≡ i.turns) × (s.next_invocation ≡ i.next_invocation)
     × (vec_len s.invocations + vec_len s.spare ≡ 64) × (64 ≤ vec_capacity s.invocations) × (64 ≤ vec_capacity s.spare) × (vec_len s.last ≤ deque_capacity s.pending)
-    × ((slot : ℕ) → version_of slot s.versions.items ≤ i.turns) =
+    × ((slot : ℕ) → version_of slot s.versions.items ≤ i.left_out + i.turns) × (s.left_out ≡ i.left_out) =
     elim c.if-len-eq-MOST_INVOCATIONS.branch [
       | then-len-eq-MOST_INVOCATIONS w ↦ (
           let dropped = w.drop_oldest_completed.ensures in
@@ -27,15 +27,16 @@ invariant_of-self c =
             omega (arith, dropped.spare_places, kept.spare_places),
             kept.pending_places,
             kept.versions,
+            refl,
           )
           )
-      | else-len-eq-MOST_INVOCATIONS w ↦ rw w.self-inside-is (kept.counted, refl, refl, kept.rooms, kept.invocation_places, kept.spare_places, kept.pending_places, kept.versions)
+      | else-len-eq-MOST_INVOCATIONS w ↦ rw w.self-inside-is (kept.counted, refl, refl, kept.rooms, kept.invocation_places, kept.spare_places, kept.pending_places, kept.versions, refl)
     ] in
     let turns = ap (λ (k : Course). k.state.turns) c.self.view_is in
     let ids = ap (λ (k : Course). k.state.next_invocation) c.self.view_is in
     record {
-      turns = omega (arith, same.1, kept.turns);
-      versions = λ slot. omega (arith, same.1, same.7 slot);
+      turns = rw (same.1, same.8) kept.turns;
+      versions = λ slot. omega (arith, same.1, same.8, same.7 slot);
       ids = omega (arith, same.1, same.2, turns, ids, c.requires.id);
       counted = subst (λ (is : List Invocation). AreCounted (s.next_invocation + 1) is) (sym c.push_reserved.ensures.items)
           (counted_and_last s.next_invocation c.running_in-invocation.result s.invocations.items (ap (λ (x : Invocation). x.id) c.running_in-invocation.ensures.invocation) same.0);

@@ -60,7 +60,7 @@ fn tabled<R: Handlers>(
     ensures { (a : Around) → Finishes (PrintsTable name.now (kinds_of (R.slots rack.now)) plan.now things) a a result }
 {
     let mut text = table_text(alloc, plan, things.as_slice(), rack)?;
-    match IndexedThings::new(alloc, things, &plan.slots, rack) {
+    match IndexedThings::new(alloc, things, &plan.slots, rack, plan.versions) {
         Ok(_) => Ok(Ending { status: 0, text }),
         Err(fault) => {
             let told = misfit(alloc, name, &fault)?;

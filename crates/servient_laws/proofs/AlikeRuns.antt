@@ -461,7 +461,7 @@ follows_ran answers site e (what.Ended c) s t u v a b is alike p q on_a on_b = f
 follows_ran answers site e (what.Datagram from size) s t u v a b is alike p q on_a on_b =
     datagram_ran e from size a b u v is (datagram_agrees answers site from e.bytes s t u v a b alike p q on_a on_b)
 follows_ran answers site e what.Tick s t u v a b is alike p q on_a on_b =
-    followed (agreed (each_agree answers PollsAndDelivers (events_of site) (poll_agrees answers) s t u v a b alike p q on_a on_b))
+    followed (agreed (each_agree answers PollsAndDelivers (events_of site.things) (poll_agrees answers) s t u v a b alike p q on_a on_b))
 follows_ran answers site e what.Stop s t u v a b is alike p q on_a on_b = followed (agreed (becomes_agree s t u v [] [] a b alike refl p q))
 
 step_ran : (answers : ℕ → Answer) (site : Site) (e : EventWithBytes) (s t u v : State) (a b : List Sighting) → Alike s t

@@ -260,7 +260,7 @@ follows_know site exchanges e (what.Datagram from count) seen a before s t is to
 }
 follows_know site exchanges e what.Tick seen a before s t is told moves k on =
     let last : IsHeardLast e (seen ++ at_network (heard e) ∷ []) = record { before = seen; later = []; whole = refl; none = tt } in
-    let polled = polls_come site exchanges e [] (events_of site) (seen ++ at_network (heard e) ∷ []) a s t k.used is refl last (heard_come site exchanges seen e k.used k.come) (places_of site exchanges seen s k) on in
+    let polled = polls_come site exchanges e [] (events_of site.things) (seen ++ at_network (heard e) ∷ []) a s t k.used is refl last (heard_come site exchanges seen e k.used k.come) (places_of site exchanges seen s k) on in
     record {
       keeps = λ c below. heard_keeps site c e what.Tick seen s t a below is (k.keeps c below) on;
       used = k.used;

@@ -180,7 +180,7 @@ pub record Polled (site : Site) (exchanges : ℕ) (seen : List Sighting) (used :
   pub come : CallsCome site exchanges seen used
   pub settled : Settled h k
 
-pub polls_come : (site : Site) (exchanges : ℕ) (e : EventWithBytes) (before ps : List Placed) (seen a : List Sighting) (s t : State) (used : ℕ → ℕ) → e.event.what ≡ what.Tick → events_of site ≡ before ++ ps → IsHeardLast e seen → CallsCome site exchanges seen used
+pub polls_come : (site : Site) (exchanges : ℕ) (e : EventWithBytes) (before ps : List Placed) (seen a : List Sighting) (s t : State) (used : ℕ → ℕ) → e.event.what ≡ what.Tick → events_of site.things ≡ before ++ ps → IsHeardLast e seen → CallsCome site exchanges seen used
     → length s.http.places ≡ 64 → Each PollsAndDelivers ps s a t → Polled site exchanges (seen ++ a) used s.http t.http
 polls_come site exchanges e before [] seen a s t used is all last come places stays = record {
   come = subst (λ (l : List Sighting). CallsCome site exchanges (seen ++ l) used) (sym stays.saw) (subst (λ (l : List Sighting). CallsCome site exchanges l used) (sym (append-nil seen)) come);
@@ -189,7 +189,7 @@ polls_come site exchanges e before [] seen a s t used is all last come places st
 polls_come site exchanges e before (p ∷ ps) seen a s t used is all last come places w =
     let polled = w.one.1 in
     let on = polled.one in
-    let among : Contains (events_of site) p = subst (λ (xs : List Placed). Contains xs p) (append_assoc before (p ∷ []) ps ∙ sym all) (Contains-append_left (before ++ p ∷ []) ps p (Contains-push before p)) in
+    let among : Contains (events_of site.things) p = subst (λ (xs : List Placed). Contains xs p) (append_assoc before (p ∷ []) ps ∙ sym all) (Contains-append_left (before ++ p ∷ []) ps p (Contains-push before p)) in
     let made : CallsCome site exchanges (seen ++ polled.first) used =
     subst (λ (l : List Sighting). CallsCome site exchanges (seen ++ l) used) (sym on.3.saw) (is_poll seen e p on.1 used come last is among (polls_are_one p w.one.0 s.thing on.0 on.1 on.2)) in
     let delivered = each_quiet (map (λ x. x.target) w.one.0) polled.mid w.mid polled.second polled.other in

@@ -76,7 +76,7 @@ heard_keeps site c e w seen s t a below is k follows = by w is follows
     by (what.Bytes d count) is both = bytes d count is both
     by (what.Ended d) is on = ended d is (c == d) refl on
     by (what.Datagram from count) is on = then_it (HearsDatagram site from e.bytes) (hears_keep site c from e.bytes below) (others (what.Datagram from count) is refl) on
-    by what.Tick is on = then_it (Each PollsAndDelivers (events_of site)) (keeps_each site c PollsAndDelivers (events_of site) (λ p. polls_keep site c p below)) (others what.Tick is refl) on
+    by what.Tick is on = then_it (Each PollsAndDelivers (events_of site.things)) (keeps_each site c PollsAndDelivers (events_of site.things) (λ p. polls_keep site c p below)) (others what.Tick is refl) on
     by what.Stop is stays =
         then_it (λ s a t. Becomes s [] a t) (λ seen a s t k p. aside_keeps site c seen a [] s t s k refl p no_more) (others what.Stop is refl) stays
 

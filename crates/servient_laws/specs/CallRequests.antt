@@ -157,7 +157,7 @@ pub data CallsCome (site : Site) (exchanges : ℕ) : List Sighting → (ℕ → 
       → CallsCome site exchanges (seen ++ at_network (heard e) ∷ []) (updated used c 0)
   -- a tick came last, and an event affordance is polled
   is_poll : (seen : List Sighting) (e : EventWithBytes) (p : Placed) (calls : List HandlerCall) (used : ℕ → ℕ) → CallsCome site exchanges seen used → IsHeardLast e seen → e.event.what ≡ what.Tick
-      → Contains (events_of site) p → ArePollOf p calls → CallsCome site exchanges (seen ++ map at_handler calls) used
+      → Contains (events_of site.things) p → ArePollOf p calls → CallsCome site exchanges (seen ++ map at_handler calls) used
   -- a datagram came just now, which is a request that is admitted
   by_datagram : (seen : List Sighting) (e : EventWithBytes) (from : Endpoint) (count : ℕ) (m : CoapMessage) (q : RequestSeen) (calls : List HandlerCall) (used : ℕ → ℕ)
       → CallsCome site exchanges (seen ++ at_network (heard e) ∷ []) used → e.event.what ≡ what.Datagram from count → Spells m e.bytes → is_request m ≡ true → IsAdmitted exchanges seen e from m → IsRequestOf m q

@@ -18,9 +18,12 @@ use Rattle.plan_table.specs.declared.row.Row.{Row}
 
 -- ---- the row of an affordance
 
--- the first `href` among some forms that begins so
-abbrev pub first_href : List ℕ → List Form → Option (List ℕ)
-first_href scheme forms = option_map (λ form. form.href) (find (λ form. starts_with nat_eq form.href scheme) forms)
+-- the first `href` among some forms that begins with one scheme or with the other
+abbrev pub begins_with : List ℕ → List ℕ → Form → Bool
+begins_with one other form = starts_with nat_eq form.href one || starts_with nat_eq form.href other
+
+abbrev pub first_href : List ℕ → List ℕ → List Form → Option (List ℕ)
+first_href one other forms = option_map (λ form. form.href) (find (begins_with one other) forms)
 
 -- the forms of an affordance in the description of its Thing
 abbrev pub forms_for : Json → Affordance → List Form
@@ -40,8 +43,8 @@ row_of slots kinds thing a = record {
   slot = slot_named thing.0 (pointer_of a) slots;
   handler = option_and_then (slice_get kinds) (slot_named thing.0 (pointer_of a) slots);
   observable = is_observable a;
-  http = first_href (codes "http://") (forms_for thing.1 a);
-  coap = first_href (codes "coap://") (forms_for thing.1 a);
+  http = first_href (codes "http://") (codes "https://") (forms_for thing.1 a);
+  coap = first_href (codes "coap://") (codes "coaps://") (forms_for thing.1 a);
 }
 
 -- the rows of a Thing, and of all Things in order

@@ -1,7 +1,7 @@
 //! The rows of the table, one for each affordance.
 
-ghost use Rattle.std.specs.Prelude.{◌≡◌, ◌++◌, ◌∷◌, [], find, codes, nat_eq, option_and_then, option_map, slice_get, IfOk, OnOk};
-ghost use Rattle.std.specs.List.{AllByRecursion, starts_with};
+ghost use Rattle.std.specs.Prelude.{◌≡◌, ◌++◌, ◌∷◌, [], find, codes, option_and_then, option_map, slice_get, IfOk, OnOk};
+ghost use Rattle.std.specs.List.{AllByRecursion};
 ghost use Rattle.wot_json.specs.Meaning.{json_of};
 ghost use Rattle.wot_terms.specs.Faults.{IsValid};
 ghost use Rattle.wot_terms.specs.ThingLists.{kept_thing, kept_things};
@@ -125,32 +125,46 @@ fn hrefs_of(
     affordance: &Affordance,
 ) -> Result<(Option<Text>, Option<Text>), NoMemory>
     requires { IsValid (json_of thing.now.tree) }
-    ensures http { IfOk result (λ hrefs. hrefs.0 ≡ table.first_href (codes "http://") (table.forms_for (json_of thing.now.tree) affordance.now)) }
-    ensures coap { IfOk result (λ hrefs. hrefs.1 ≡ table.first_href (codes "coap://") (table.forms_for (json_of thing.now.tree) affordance.now)) }
+    ensures http { IfOk result (λ hrefs. hrefs.0 ≡ table.first_href (codes "http://") (codes "https://") (table.forms_for (json_of thing.now.tree) affordance.now)) }
+    ensures coap { IfOk result (λ hrefs. hrefs.1 ≡ table.first_href (codes "coap://") (codes "coaps://") (table.forms_for (json_of thing.now.tree) affordance.now)) }
 {
     let kind = Some(affordance.kind);
     match forms_of(alloc, &thing.tree, kind, affordance.name.as_str())? {
         Some(forms) => Ok((
-            first_href(alloc, forms.as_slice(), "http://")?,
-            first_href(alloc, forms.as_slice(), "coap://")?,
+            first_href(alloc, forms.as_slice(), "http://", "https://")?,
+            first_href(alloc, forms.as_slice(), "coap://", "coaps://")?,
         )),
         None => Ok((None, None)),
     }
 }
 
-/// A copy of the first `href` that begins so.
-fn first_href(alloc: Global, forms: &[Form], scheme: &str) -> Result<Option<Text>, NoMemory>
-    ensures { IfOk result (λ href. href ≡ table.first_href scheme.now forms.now) }
+/// A copy of the first `href` that begins with one scheme or with the other.
+fn first_href(
+    alloc: Global,
+    forms: &[Form],
+    one: &str,
+    other: &str,
+) -> Result<Option<Text>, NoMemory>
+    ensures { IfOk result (λ href. href ≡ table.first_href one.now other.now forms.now) }
 {
-    match first_form(forms, scheme) {
+    match first_form(forms, one, other) {
         Some(form) => Ok(Some(Text::copy_of(alloc, form.href.as_str())?)),
         None => Ok(None),
     }
 }
 
-/// The first form whose `href` begins so. It is a function, since the search proves `find` in a function alone.
-fn first_form<'a>(forms: &'a [Form], scheme: &str) -> Option<&'a Form>
-    ensures { option_map (λ form. form.now) result ≡ find (λ form. starts_with nat_eq form.href scheme.now) forms.now }
+/// The first form whose `href` begins with one scheme or with the other. It is a function, since the search proves `find` in a
+/// function alone.
+fn first_form<'a>(forms: &'a [Form], one: &str, other: &str) -> Option<&'a Form>
+    ensures { option_map (λ form. form.now) result ≡ find (table.begins_with one.now other.now) forms.now }
 {
-    forms.iter().find(|form| form.href.as_str().as_bytes().starts_with(scheme.as_bytes()))
+    forms.iter().find(|form| begins_with(form, one, other))
+}
+
+/// The `href` of a form begins with one scheme or with the other.
+fn begins_with(form: &Form, one: &str, other: &str) -> bool
+    ensures { result ≡ table.begins_with one.now other.now form.now }
+{
+    let href = form.href.as_str().as_bytes();
+    href.starts_with(one.as_bytes()) || href.starts_with(other.as_bytes())
 }

@@ -39,5 +39,6 @@ built_in_plan = record {
   exchanges = 1024;
   epoch = None;
   versions = 0;
+  listen = None;
   unknown = [];
 }

@@ -9,6 +9,7 @@ use Rattle.wot_json.specs.Tree.{Json, integer, string, array, object, Elements, 
 use Rattle.wot_json.specs.Lookup.{member_list, member_named}
 use Rattle.wot_json.specs.Merge.{members_under}
 use Rattle.wot_terms.specs.Affordances.{part}
+use Rattle.wot_forms.specs.declared.bases.Bases.{Bases}
 use Rattle.wot_forms.specs.Segments.{is_name_byte, is_plain_segment}
 use Rattle.servient_outside.specs.declared.place.Place.{Place}
 use Rattle.servient_plan.specs.declared.plan.Plan.{Plan}
@@ -35,20 +36,27 @@ is_root_segment text = list_all is_name_byte text && nat_lt 0 (length text) && n
 abbrev pub base_point : List ℕ → List ℕ → Option (List ℕ × ℕ)
 base_point scheme text = if starts_with (λ a b. a == b) text scheme then point_in (drop (length scheme) text) else None
 
+abbrev pub is_base : List ℕ → List ℕ → Bool
+is_base scheme text = is_some (base_point scheme text)
+
 -- the name of each of these members
 abbrev pub member_of : TextRow → List ℕ
 member_of row.Name = codes "name"
 member_of row.Id = codes "id"
 member_of row.Http = codes "http"
 member_of row.Coap = codes "coap"
+member_of row.PublicHttp = codes "http"
+member_of row.PublicCoap = codes "coap"
 member_of row.Root = codes "model"
 
--- the texts that it may be
+-- the texts that it may be; a plan that says where the servient listens may have bases of a proxy in front of it
 abbrev pub takes_text : TextRow → List ℕ → Bool
 takes_text row.Name text = is_root_segment text
 takes_text row.Id text = nat_lt 0 (length text)
-takes_text row.Http text = is_some (base_point (codes "http://") text)
-takes_text row.Coap text = is_some (base_point (codes "coap://") text)
+takes_text row.Http text = is_base (codes "http://") text
+takes_text row.Coap text = is_base (codes "coap://") text
+takes_text row.PublicHttp text = is_base (codes "http://") text || is_base (codes "https://") text
+takes_text row.PublicCoap text = is_base (codes "coap://") text || is_base (codes "coaps://") text
 takes_text row.Root text = true
 
 -- ---- the values of members
@@ -144,13 +152,36 @@ abbrev pub versions_in : Option Json → Option ℕ
 versions_in None = Some 0
 versions_in (Some v) = number_within 0 last_left_out (Some v)
 
+-- Where it listens, if that isn't where descriptions and links say that it is: both bases, such as a plan has them that
+-- doesn't say it.
+abbrev pub bases_in : Json → Option Bases
+bases_in v =
+    option_and_then (λ http. option_map (λ coap. record { http = http; coap = coap }) (taken_text row.Coap (text_in (part (codes "coap") v))))
+    (taken_text row.Http (text_in (part (codes "http") v)))
+
+abbrev pub listen_in : Option Json → Option (Option Bases)
+listen_in None = Some None
+listen_in (Some v) = option_map (λ bases. Some bases) (bases_in v)
+
+-- the member stands, whatever its value is; and the rows of `http` and `coap` then, and else
+abbrev pub has_listen : List (List ℕ × Json) → Bool
+has_listen ms = is_some (member_named (codes "listen") ms)
+
+abbrev pub http_row : Bool → TextRow
+http_row true = row.PublicHttp
+http_row false = row.Http
+
+abbrev pub coap_row : Bool → TextRow
+coap_row true = row.PublicCoap
+coap_row false = row.Coap
+
 -- ---- the members that a plan has
 
 -- Other members are ignored, and so a name that is misspelt; `unknown_in` gives their names, in the order of the object.
 abbrev pub plan_members : List (List ℕ)
 plan_members =
     codes "name" ∷ codes "id" ∷ codes "http" ∷ codes "coap" ∷ codes "model" ∷ codes "models" ∷ codes "bindings" ∷ codes "optional"
-    ∷ codes "instance" ∷ codes "slots" ∷ codes "exchanges" ∷ codes "epoch" ∷ codes "versions" ∷ []
+    ∷ codes "instance" ∷ codes "slots" ∷ codes "exchanges" ∷ codes "epoch" ∷ codes "versions" ∷ codes "listen" ∷ []
 
 abbrev pub is_unknown : List ℕ → Bool
 is_unknown name = not (list_any (λ other. bytes_eq name other) plan_members)
@@ -180,8 +211,8 @@ abbrev pub names_in : List (List ℕ × Json) → Result Names (List ℕ)
 names_in ms =
     then_row (text_row row.Name ms) (λ segment.
     then_row (text_row row.Id ms) (λ id.
-    then_row (text_row row.Http ms) (λ http.
-    then_row (text_row row.Coap ms) (λ coap.
+    then_row (text_row (http_row (has_listen ms)) ms) (λ http.
+    then_row (text_row (coap_row (has_listen ms)) ms) (λ coap.
     then_row (text_row row.Root ms) (λ root.
     Ok (record { segment = segment; id = id; bases = record { http = http; coap = coap }; root = root }))))))
 
@@ -203,6 +234,7 @@ plan_in ms =
     then_row (member_row (codes "exchanges") exchanges_in ms) (λ exchanges.
     then_row (member_row (codes "epoch") epoch_in ms) (λ epoch.
     then_row (member_row (codes "versions") versions_in ms) (λ versions.
+    then_row (member_row (codes "listen") listen_in ms) (λ listen.
     Ok (record {
       frame = record { segment = names.segment; id = names.id; bases = names.bases; instance = instance };
       root = names.root;
@@ -213,8 +245,9 @@ plan_in ms =
       exchanges = exchanges;
       epoch = epoch;
       versions = versions;
+      listen = listen;
       unknown = unknown_in ms;
-    }))))))))
+    })))))))))
 
 -- The plan that a value is, or the pointer to what it refuses first: the empty one where it is no object.
 abbrev pub is_object : Json → Bool
@@ -236,12 +269,16 @@ MayBeServed plan = (16 ≤ plan.exchanges) × (plan.exchanges ≤ 65536) × (is_
 abbrev pub point_of : List ℕ → List ℕ → List ℕ × ℕ
 point_of scheme base = unwrap_or (base_point scheme base) ([], 0)
 
--- its bases, and how many milliseconds without traffic
+-- The bases at which it listens: its own, where it doesn't say others.
+abbrev pub listened_at : Plan → Bases
+listened_at plan = unwrap_or plan.listen plan.frame.bases
+
+-- there, and how many milliseconds without traffic
 abbrev pub place_of : Plan → ℕ → Place
 place_of plan idle = record {
-  http_host = (point_of (codes "http://") plan.frame.bases.http).0;
-  http_port = (point_of (codes "http://") plan.frame.bases.http).1;
-  coap_host = (point_of (codes "coap://") plan.frame.bases.coap).0;
-  coap_port = (point_of (codes "coap://") plan.frame.bases.coap).1;
+  http_host = (point_of (codes "http://") (listened_at plan).http).0;
+  http_port = (point_of (codes "http://") (listened_at plan).http).1;
+  coap_host = (point_of (codes "coap://") (listened_at plan).coap).0;
+  coap_port = (point_of (codes "coap://") (listened_at plan).coap).1;
   idle = idle;
 }

@@ -33,6 +33,7 @@ impl Plan {
             exchanges: 1024,
             epoch: None,
             versions: 0,
+            listen: None,
             unknown: UnknownMembers::new(alloc),
         })
     }

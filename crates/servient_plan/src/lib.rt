@@ -18,6 +18,7 @@
 #![tactic(auto)]
 
 mod built_in;
+mod listening;
 mod plan;
 mod texts;
 mod unknown;

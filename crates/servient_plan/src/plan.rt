@@ -7,6 +7,7 @@ ghost use Rattle.servient_plan.specs.Plan.{plan_of, place_of, Reads, MayBeServed
 ghost use Rattle.servient_plan.specs.Plan as spec;
 ghost use Rattle.wot_forms.specs.Segments.{is_plain_segment};
 
+use crate::listening::{has_listen, listen_row};
 use crate::texts::{TextRow, base_point};
 use crate::unknown::unknown_in;
 use crate::values::{
@@ -44,6 +45,8 @@ pub struct Plan {
     pub epoch: Option<u64>,
     /// Versions of properties up to this one are left out, since an earlier run may have sent them as tags.
     pub versions: u32,
+    /// The bases at which the servient listens, where descriptions and links say others than these.
+    pub listen: Option<Bases>,
     /// The names of the members of the object that no plan has.
     pub unknown: UnknownMembers,
 }
@@ -203,6 +206,7 @@ impl Plan {
         let exchanges = exchanges_row(alloc, tree)?;
         let epoch = epoch_row(alloc, tree)?;
         let versions = versions_row(alloc, tree)?;
+        let listen = listen_row(alloc, tree)?;
         let unknown = unknown_in(alloc, tree)?;
         let frame = Frame {
             segment: names.segment,
@@ -220,16 +224,28 @@ impl Plan {
             exchanges,
             epoch,
             versions,
+            listen,
             unknown,
         })
     }
 
-    /// The place where a servient of this plan listens: at its bases, until `idle` milliseconds pass without traffic.
+    /// The bases at which a servient of this plan listens.
+    fn listened_at(&self) -> &Bases
+        ensures { result.now ≡ spec.listened_at self.now }
+    {
+        match &self.listen {
+            Some(bases) => bases,
+            None => &self.frame.bases,
+        }
+    }
+
+    /// The place where a servient of this plan listens, until `idle` milliseconds pass without traffic.
     pub fn place(&self, alloc: Global, idle: u64) -> Result<Place, NoMemory>
         ensures { IfOk result (λ place. place ≡ place_of self.now idle) }
     {
-        let (http_host, http_port) = point_of("http://", self.frame.bases.http.as_str());
-        let (coap_host, coap_port) = point_of("coap://", self.frame.bases.coap.as_str());
+        let bases = self.listened_at();
+        let (http_host, http_port) = point_of("http://", bases.http.as_str());
+        let (coap_host, coap_port) = point_of("coap://", bases.coap.as_str());
         Ok(Place {
             http_host: Text::copy_of(alloc, http_host)?,
             http_port,
@@ -248,8 +264,9 @@ fn names_in(alloc: Global, tree: &Tree) -> Result<Names, PlanFault>
 {
     let segment = text_row(alloc, tree, TextRow::Name)?;
     let id = text_row(alloc, tree, TextRow::Id)?;
-    let http = text_row(alloc, tree, TextRow::Http)?;
-    let coap = text_row(alloc, tree, TextRow::Coap)?;
+    let listens = has_listen(tree);
+    let http = text_row(alloc, tree, TextRow::http(listens))?;
+    let coap = text_row(alloc, tree, TextRow::coap(listens))?;
     let root = text_row(alloc, tree, TextRow::Root)?;
     let bases = Bases { http, coap };
     Ok(Names {

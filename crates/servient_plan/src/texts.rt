@@ -16,10 +16,36 @@ pub(crate) enum TextRow {
     Id,
     Http,
     Coap,
+    /// `http` of a plan that says besides where it listens.
+    PublicHttp,
+    /// `coap` of such a plan.
+    PublicCoap,
     Root,
 }
 
 impl TextRow {
+    /// The row of `http`, in a plan that says where it listens or in another one.
+    pub(crate) fn http(listens: bool) -> TextRow
+        ensures { result ≡ spec.http_row listens }
+    {
+        if listens {
+            TextRow::PublicHttp
+        } else {
+            TextRow::Http
+        }
+    }
+
+    /// The row of `coap`.
+    pub(crate) fn coap(listens: bool) -> TextRow
+        ensures { result ≡ spec.coap_row listens }
+    {
+        if listens {
+            TextRow::PublicCoap
+        } else {
+            TextRow::Coap
+        }
+    }
+
     /// The name of the member.
     pub(crate) fn name(self) -> &'static str
         ensures { result.now ≡ spec.member_of self }
@@ -27,8 +53,8 @@ impl TextRow {
         match self {
             TextRow::Name => "name",
             TextRow::Id => "id",
-            TextRow::Http => "http",
-            TextRow::Coap => "coap",
+            TextRow::Http | TextRow::PublicHttp => "http",
+            TextRow::Coap | TextRow::PublicCoap => "coap",
             TextRow::Root => "model",
         }
     }
@@ -40,8 +66,10 @@ impl TextRow {
         match self {
             TextRow::Name => is_root_segment(text),
             TextRow::Id => !text.is_empty(),
-            TextRow::Http => base_point("http://", text).is_some(),
-            TextRow::Coap => base_point("coap://", text).is_some(),
+            TextRow::Http => is_base("http://", text),
+            TextRow::Coap => is_base("coap://", text),
+            TextRow::PublicHttp => is_base("http://", text) || is_base("https://", text),
+            TextRow::PublicCoap => is_base("coap://", text) || is_base("coaps://", text),
             TextRow::Root => true,
         }
     }
@@ -62,6 +90,13 @@ fn is_root_segment(text: &str) -> bool
         && !text.is_empty()
         && text.len() <= MOST_SEGMENT
         && !is_reserved(text)
+}
+
+/// The text is a base with this scheme.
+fn is_base(scheme: &str, text: &str) -> bool
+    ensures { result ≡ spec.is_base scheme.now text.now }
+{
+    base_point(scheme, text).is_some()
 }
 
 /// The host and the port of a base with this scheme, where the text is one.

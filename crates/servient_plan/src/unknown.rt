@@ -12,7 +12,7 @@ use std::alloc::Global;
 use wot_json::{NoMemory, Text, Tree};
 
 /// The members that a plan has. A member that comes later joins them.
-const MEMBERS: [&str; 13] = [
+const MEMBERS: [&str; 14] = [
     "name",
     "id",
     "http",
@@ -26,6 +26,7 @@ const MEMBERS: [&str; 13] = [
     "exchanges",
     "epoch",
     "versions",
+    "listen",
 ];
 
 /// The names of the members of a tree that no plan has, in their order.

@@ -34,7 +34,7 @@ const LAST_EPOCH: u64 = 253_402_300_799_999;
 const LAST_LEFT_OUT: u32 = 4_000_000_000;
 
 /// The text that a value is.
-fn text_in(value: Option<&Tree>) -> Option<&str>
+pub(crate) fn text_in(value: Option<&Tree>) -> Option<&str>
     ensures { option_map (λ text. text.now) result ≡ spec.text_in (option_map (λ t. json_of t.now) value.entry) }
 {
     match value {
@@ -53,7 +53,7 @@ fn text_of(tree: &Tree) -> Option<&str>
 }
 
 /// The value of a member that is as its row says, or the fault of the member of this name.
-fn row<A>(alloc: Global, name: &str, value: Option<A>) -> Result<A, PlanFault>
+pub(crate) fn row<A>(alloc: Global, name: &str, value: Option<A>) -> Result<A, PlanFault>
     ensures { Reads result (spec.row_of name.now value) }
 {
     match value {
@@ -72,7 +72,11 @@ pub(crate) fn text_row(alloc: Global, tree: &Tree, member: TextRow) -> Result<Te
 }
 
 /// A copy of a text that a member may be.
-fn taken_text(alloc: Global, member: TextRow, text: Option<&str>) -> Result<Option<Text>, NoMemory>
+pub(crate) fn taken_text(
+    alloc: Global,
+    member: TextRow,
+    text: Option<&str>,
+) -> Result<Option<Text>, NoMemory>
     ensures { IfOk result (λ o. o ≡ spec.taken_text member (option_map (λ t. t.now) text.entry)) }
 {
     match text {

@@ -1,11 +1,12 @@
 //! Tables of the outside and of the handlers in memory: handlers in a rack, files in memory and of the machine,
-//! outputs, and the network in memory. Each argument names a file: the table of that name.
+//! outputs, the network in memory, and the network over a system in memory. Each argument names a file: the table of that name.
 //!
 //! Lines with ` => ` are steps of a history, which begins at the top and anew after each empty line: a deed, and its
 //! outcome. The program prints each step with its real outcome, and each other line as it is, so that it prints its
 //! files, if all is right.
 #![tactic(auto)]
 
+mod answers;
 mod calls;
 mod devices;
 mod files;
@@ -14,6 +15,8 @@ mod lines;
 mod machine;
 mod network;
 mod outputs;
+mod records;
+mod systems;
 mod writers;
 
 use cases_notation::{print_file, put_histories};
@@ -27,6 +30,7 @@ fn put_file(text: &mut String, alloc: Global, table: &str, lines: &str) -> Resul
         "files" => files::put(text, alloc, history),
         "outputs" => outputs::put(text, alloc, history),
         "network" => network::put(text, alloc, history),
+        "systems" => systems::put(text, alloc, history),
         "writers" => writers::put(text, alloc, history),
         _ => text.push_str("no such table"),
     })

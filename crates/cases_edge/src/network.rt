@@ -22,7 +22,7 @@ const LAST_MOMENT: u64 = 1_000_000_000_000_000;
 const CONNECTIONS: u32 = 64;
 
 /// The number of a connection; 0 where it is none.
-fn connection_of(word: &str) -> u32
+pub fn connection_of(word: &str) -> u32
     ensures { result < 64 }
 {
     match word.parse::<u32>() {
@@ -91,7 +91,7 @@ fn events_of(alloc: Global, history: &str) -> Result<Events, AllocError> {
 }
 
 /// The next event and its bytes.
-fn put_next(text: &mut String, net: &mut NetMemory) -> Result<(), AllocError> {
+pub fn put_next<N: Net>(text: &mut String, net: &mut N) -> Result<(), AllocError> {
     let mut buffer = [0u8; 4096];
     match net.next(&mut buffer) {
         Next::Got(event) => {
@@ -119,10 +119,10 @@ fn place_of(alloc: Global, words: &str) -> Result<Place, AllocError> {
 }
 
 /// Listens, and says the answer.
-fn put_listened(
+pub fn put_listened<N: Net>(
     text: &mut String,
     alloc: Global,
-    net: &mut NetMemory,
+    net: &mut N,
     words: &str,
 ) -> Result<(), AllocError> {
     let place = place_of(alloc, words)?;
@@ -130,7 +130,7 @@ fn put_listened(
 }
 
 /// Sends a datagram.
-fn send_datagram(alloc: Global, net: &mut NetMemory, words: &str) -> Result<(), AllocError> {
+fn send_datagram<N: Net>(alloc: Global, net: &mut N, words: &str) -> Result<(), AllocError> {
     let (to, bytes) = words.split_once(' ').unwrap_or((words, "-"));
     let bytes = bytes_of(alloc, bytes)?;
     net.datagram(endpoint_of(to), bytes.as_slice());
@@ -138,7 +138,7 @@ fn send_datagram(alloc: Global, net: &mut NetMemory, words: &str) -> Result<(), 
 }
 
 /// Sends a head and a body.
-fn send(alloc: Global, net: &mut NetMemory, words: &str) -> Result<(), AllocError> {
+fn send<N: Net>(alloc: Global, net: &mut N, words: &str) -> Result<(), AllocError> {
     let mut fields = words.splitn(3, ' ');
     let c = connection_of(fields.next().unwrap_or(""));
     let head = fields.next().unwrap_or("").as_bytes();
@@ -148,7 +148,7 @@ fn send(alloc: Global, net: &mut NetMemory, words: &str) -> Result<(), AllocErro
 }
 
 /// Writes an endpoint.
-fn put_endpoint(text: &mut String, to: Endpoint) -> Result<(), AllocError> {
+pub fn put_endpoint(text: &mut String, to: Endpoint) -> Result<(), AllocError> {
     write!(text, "host{}:{}", to.host, to.port)
 }
 
@@ -190,13 +190,18 @@ fn put_acts(text: &mut String, net: &NetMemory) -> Result<(), AllocError> {
 }
 
 /// The host and the port of these words.
-fn host_of(words: &str) -> (&str, u16) {
+pub fn host_of(words: &str) -> (&str, u16) {
     let (host, port) = words.split_once(' ').unwrap_or((words, ""));
     (host, small_number(Some(port)))
 }
 
 /// Does a step that has no answer.
-fn act_on(alloc: Global, net: &mut NetMemory, word: &str, words: &str) -> Result<(), AllocError> {
+pub fn act_on<N: Net>(
+    alloc: Global,
+    net: &mut N,
+    word: &str,
+    words: &str,
+) -> Result<(), AllocError> {
     match word {
         "datagram" => send_datagram(alloc, net, words),
         "send" => send(alloc, net, words),
@@ -207,18 +212,17 @@ fn act_on(alloc: Global, net: &mut NetMemory, word: &str, words: &str) -> Result
     }
 }
 
-/// Does a step.
-fn put_done(
+/// Does a step of any network.
+pub fn put_done<N: Net>(
     text: &mut String,
     alloc: Global,
-    net: &mut NetMemory,
+    net: &mut N,
     word: &str,
     words: &str,
 ) -> Result<(), AllocError> {
     let (host, port) = host_of(words);
     match word {
         "next" => put_next(text, net),
-        "acts" => put_acts(text, net),
         "listen" => put_listened(text, alloc, net, words),
         "dial" => write!(text, "{:?}", net.dial(alloc, host, port)),
         "find" => write!(text, "{:?}", net.find(alloc, host, port)),
@@ -237,7 +241,10 @@ fn put_step(
     step: &str,
 ) -> Result<(), AllocError> {
     let (word, words) = step.split_once(' ').unwrap_or((step, ""));
-    put_done(text, alloc, net, word, words)
+    match word {
+        "acts" => put_acts(text, net),
+        _ => put_done(text, alloc, net, word, words),
+    }
 }
 
 pub fn put(text: &mut String, alloc: Global, history: &str) -> Result<(), AllocError> {

@@ -1,7 +1,7 @@
 //! Connections that are opened from here.
 
 use crate::listening::{event, expect, listen_on_free_ports};
-use servient_edge::{Dialled, Found, MioNet, Net, What};
+use servient_edge::{Dialled, Found, MioNet, Net, SystemReal, What};
 use std::net::TcpListener;
 use std::test::Fail;
 
@@ -9,12 +9,12 @@ use std::test::Fail;
 const PATIENCE: u32 = 20;
 
 /// The answer to dialling. It has no clause, so that its callers are proved without those of `dial`, as with `event`.
-fn dialled(rt: &HostRuntime, net: &mut MioNet<HostRuntime>, host: &str, port: u16) -> Dialled {
+fn dialled(rt: &HostRuntime, net: &mut MioNet<SystemReal<HostRuntime>>, host: &str, port: u16) -> Dialled {
     net.dial(rt.alloc(), host, port)
 }
 
 /// Whether a connection that was dialled ends before much else comes.
-fn ends(net: &mut MioNet<HostRuntime>, c: u32) -> bool {
+fn ends(net: &mut MioNet<SystemReal<HostRuntime>>, c: u32) -> bool {
     let mut buffer = [0; 4096];
     for _ in 0..PATIENCE {
         if event(net, &mut buffer) == Some(What::Ended(c)) {
@@ -33,7 +33,7 @@ fn accept_and_go(listener: &TcpListener) -> Result<(), Fail> {
 /// Dials a peer that listens, and ends it.
 fn dial_and_end(
     rt: &HostRuntime,
-    net: &mut MioNet<HostRuntime>,
+    net: &mut MioNet<SystemReal<HostRuntime>>,
     listener: &TcpListener,
     port: u16,
 ) -> Result<(), Fail> {
@@ -53,14 +53,14 @@ fn dial_and_end(
 }
 
 /// Dials a peer by its name, which listens no longer afterwards.
-fn dial_by_name(rt: &HostRuntime, net: &mut MioNet<HostRuntime>) -> Result<u16, Fail> {
+fn dial_by_name(rt: &HostRuntime, net: &mut MioNet<SystemReal<HostRuntime>>) -> Result<u16, Fail> {
     let listener = TcpListener::bind(rt, "127.0.0.1:0")?;
     let port = listener.local_addr()?.port();
     dial_and_end(rt, net, &listener, port)?;
     Ok(port)
 }
 
-fn dial_twice(rt: &HostRuntime, net: &mut MioNet<HostRuntime>) -> Result<(), Fail> {
+fn dial_twice(rt: &HostRuntime, net: &mut MioNet<SystemReal<HostRuntime>>) -> Result<(), Fail> {
     let port = dial_by_name(rt, net)?;
     if dialled(rt, net, "localhost", port) != Dialled::Failed {
         return Err("nobody listens there")?;
@@ -70,7 +70,7 @@ fn dial_twice(rt: &HostRuntime, net: &mut MioNet<HostRuntime>) -> Result<(), Fai
 
 #[test]
 fn a_name_with_two_addresses_is_reached_and_may_end(rt: HostRuntime) -> Result<(), Fail> {
-    let mut net = MioNet::new(rt.clone()?);
+    let mut net = MioNet::new(SystemReal::new(rt.clone()?));
     dial_twice(&rt, &mut net)
 }
 
@@ -83,12 +83,12 @@ const NUMBERS: u32 = 64;
 /// Dials once more: from a network that has a number left, if so many dialled before.
 fn dial_once_more(
     rt: &HostRuntime,
-    nets: &mut Vec<MioNet<HostRuntime>>,
+    nets: &mut Vec<MioNet<SystemReal<HostRuntime>>>,
     before: u32,
     port: u16,
 ) -> Result<Dialled, Fail> {
     if before % NUMBERS == 0 {
-        nets.push(MioNet::new(rt.clone()?))?;
+        nets.push(MioNet::new(SystemReal::new(rt.clone()?)))?;
     }
     match nets.last_mut() {
         Some(net) => Ok(dialled(rt, net, "127.0.0.1", port)),
@@ -99,7 +99,7 @@ fn dial_once_more(
 /// Dials until it fails.
 fn dial_until_it_fails(
     rt: &HostRuntime,
-    nets: &mut Vec<MioNet<HostRuntime>>,
+    nets: &mut Vec<MioNet<SystemReal<HostRuntime>>>,
     port: u16,
 ) -> Result<(), Fail> {
     for before in 0..WAITING {
@@ -121,7 +121,7 @@ fn a_peer_that_never_accepts_fails_after_ten_seconds(rt: HostRuntime) -> Result<
 }
 
 /// Looks a host up, and dials: its second has begun, and there is no end without listening.
-fn find_and_dial(rt: &HostRuntime, net: &mut MioNet<HostRuntime>, port: u16) -> Result<(), Fail> {
+fn find_and_dial(rt: &HostRuntime, net: &mut MioNet<SystemReal<HostRuntime>>, port: u16) -> Result<(), Fail> {
     let mut buffer = [0; 4096];
     let Found::At(_) = net.find(rt.alloc(), "localhost", port) else {
         return Err("the host isn't found")?;
@@ -135,7 +135,7 @@ fn find_and_dial(rt: &HostRuntime, net: &mut MioNet<HostRuntime>, port: u16) -> 
     Ok(())
 }
 
-fn listen_after_dialling(rt: &HostRuntime, net: &mut MioNet<HostRuntime>) -> Result<(), Fail> {
+fn listen_after_dialling(rt: &HostRuntime, net: &mut MioNet<SystemReal<HostRuntime>>) -> Result<(), Fail> {
     let listener = TcpListener::bind(rt, "127.0.0.1:0")?;
     let port = listener.local_addr()?.port();
     find_and_dial(rt, net, port)?;
@@ -145,6 +145,6 @@ fn listen_after_dialling(rt: &HostRuntime, net: &mut MioNet<HostRuntime>) -> Res
 
 #[test]
 fn it_may_listen_after_it_has_looked_up_and_dialled(rt: HostRuntime) -> Result<(), Fail> {
-    let mut net = MioNet::new(rt.clone()?);
+    let mut net = MioNet::new(SystemReal::new(rt.clone()?));
     listen_after_dialling(&rt, &mut net)
 }

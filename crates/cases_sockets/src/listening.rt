@@ -1,7 +1,7 @@
 //! Networks that listen at ports that were free, and their events. Whoever makes a network lends it to its trial, since
 //! a function that owns one is dear to prove where it may end early.
 
-use servient_edge::{Listened, MioNet, Net, Next, Place, What};
+use servient_edge::{Listened, MioNet, Net, Next, Place, SystemReal, What};
 use std::net::{TcpListener, TcpStream, UdpSocket};
 use std::test::Fail;
 use wot_json::Text;
@@ -23,7 +23,7 @@ pub struct Ports {
 /// meanwhile, and then two others are tried.
 pub fn listen_on_free_ports(
     rt: &HostRuntime,
-    net: &mut MioNet<HostRuntime>,
+    net: &mut MioNet<SystemReal<HostRuntime>>,
     idle: u64,
 ) -> Result<Ports, Fail> {
     for _ in 0..TRIES {
@@ -45,7 +45,7 @@ fn free_ports(rt: &HostRuntime) -> Result<Ports, Fail> {
 /// Has a network listen at these ports, if they are still free.
 fn listens_at(
     rt: &HostRuntime,
-    net: &mut MioNet<HostRuntime>,
+    net: &mut MioNet<SystemReal<HostRuntime>>,
     ports: Ports,
     idle: u64,
 ) -> Result<bool, Fail> {
@@ -62,7 +62,7 @@ fn listens_at(
 /// Whether it listens there. It doesn't twice.
 fn listens_once(
     rt: &HostRuntime,
-    net: &mut MioNet<HostRuntime>,
+    net: &mut MioNet<SystemReal<HostRuntime>>,
     place: &Place,
 ) -> Result<bool, Fail> {
     if net.listen(rt.alloc(), place) != Listened::Ready {
@@ -76,7 +76,7 @@ fn listens_once(
 
 /// The next event, if the network doesn't fail. It has no clause, so that its callers are proved without those of
 /// `next` on numbers, at which they don't look.
-pub fn event(net: &mut MioNet<HostRuntime>, buffer: &mut [u8; 4096]) -> Option<What> {
+pub fn event(net: &mut MioNet<SystemReal<HostRuntime>>, buffer: &mut [u8; 4096]) -> Option<What> {
     match net.next(buffer) {
         Next::Got(event) => Some(event.what),
         Next::Failed => None,
@@ -84,7 +84,7 @@ pub fn event(net: &mut MioNet<HostRuntime>, buffer: &mut [u8; 4096]) -> Option<W
 }
 
 /// The next event but ticks.
-pub fn next(net: &mut MioNet<HostRuntime>, buffer: &mut [u8; 4096]) -> Result<What, Fail> {
+pub fn next(net: &mut MioNet<SystemReal<HostRuntime>>, buffer: &mut [u8; 4096]) -> Result<What, Fail> {
     for _ in 0..PATIENCE {
         match event(net, buffer) {
             Some(What::Tick) => {}
@@ -96,7 +96,7 @@ pub fn next(net: &mut MioNet<HostRuntime>, buffer: &mut [u8; 4096]) -> Result<Wh
 }
 
 /// The next event but ticks is this.
-pub fn expect(net: &mut MioNet<HostRuntime>, what: What) -> Result<(), Fail> {
+pub fn expect(net: &mut MioNet<SystemReal<HostRuntime>>, what: What) -> Result<(), Fail> {
     let mut buffer = [0; 4096];
     if next(net, &mut buffer)? != what {
         return Err("something else came")?;
@@ -107,7 +107,7 @@ pub fn expect(net: &mut MioNet<HostRuntime>, what: What) -> Result<(), Fail> {
 /// One more connection, which has this number.
 pub fn connected_as(
     rt: &HostRuntime,
-    net: &mut MioNet<HostRuntime>,
+    net: &mut MioNet<SystemReal<HostRuntime>>,
     ports: Ports,
     c: u32,
 ) -> Result<TcpStream, Fail> {
@@ -119,7 +119,7 @@ pub fn connected_as(
 /// So many connections, which have the numbers from 0 on.
 pub fn connected(
     rt: &HostRuntime,
-    net: &mut MioNet<HostRuntime>,
+    net: &mut MioNet<SystemReal<HostRuntime>>,
     ports: Ports,
     count: u32,
 ) -> Result<Vec<TcpStream>, Fail> {

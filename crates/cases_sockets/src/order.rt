@@ -1,14 +1,14 @@
 //! Bytes that are sent on many connections, and after a pause, come whole, in order and on their own connection.
 
 use crate::listening::{Ports, connected, connected_as, event, listen_on_free_ports, next};
-use servient_edge::{MioNet, Net, What};
+use servient_edge::{MioNet, Net, SystemReal, What};
 use std::io::{Read, Write};
 use std::net::TcpStream;
 use std::test::Fail;
 use std::time::{Duration, Instant};
 
 /// Answers the next byte that comes with that byte and the number of its connection.
-fn answer(net: &mut MioNet<HostRuntime>) -> Result<(), Fail> {
+fn answer(net: &mut MioNet<SystemReal<HostRuntime>>) -> Result<(), Fail> {
     let mut buffer = [0; 4096];
     let What::Bytes(c, 1) = next(net, &mut buffer)? else {
         return Err("no byte came")?;
@@ -43,14 +43,14 @@ fn get_answers(rt: &HostRuntime, peers: &mut Vec<TcpStream>) -> Result<(), Fail>
 }
 
 /// Answers each peer.
-fn answer_all(net: &mut MioNet<HostRuntime>, count: u32) -> Result<(), Fail> {
+fn answer_all(net: &mut MioNet<SystemReal<HostRuntime>>, count: u32) -> Result<(), Fail> {
     for _ in 0..count {
         answer(net)?;
     }
     Ok(())
 }
 
-fn send_and_answer(rt: &HostRuntime, net: &mut MioNet<HostRuntime>) -> Result<(), Fail> {
+fn send_and_answer(rt: &HostRuntime, net: &mut MioNet<SystemReal<HostRuntime>>) -> Result<(), Fail> {
     let ports = listen_on_free_ports(rt, net, 0)?;
     let mut peers = connected(rt, net, ports, 64)?;
     send_numbers(&mut peers)?;
@@ -60,7 +60,7 @@ fn send_and_answer(rt: &HostRuntime, net: &mut MioNet<HostRuntime>) -> Result<()
 
 #[test]
 fn each_of_64_connections_has_its_own_reply(rt: HostRuntime) -> Result<(), Fail> {
-    let mut net = MioNet::new(rt.clone()?);
+    let mut net = MioNet::new(SystemReal::new(rt.clone()?));
     send_and_answer(&rt, &mut net)
 }
 
@@ -91,7 +91,7 @@ fn place_after(bytes: &[u8], place: u64) -> Result<u64, Fail> {
 }
 
 /// Sends all pieces on a connection.
-fn send_pieces(rt: &HostRuntime, net: &mut MioNet<HostRuntime>, c: u32) -> Result<(), Fail> {
+fn send_pieces(rt: &HostRuntime, net: &mut MioNet<SystemReal<HostRuntime>>, c: u32) -> Result<(), Fail> {
     for number in 0..PIECES {
         let piece = vec![in rt.alloc(); number; 65_536]?;
         net.send(c, b"", piece.as_slice());
@@ -102,7 +102,7 @@ fn send_pieces(rt: &HostRuntime, net: &mut MioNet<HostRuntime>, c: u32) -> Resul
 /// The number of bytes that come, each of which must be that of its place. Between the reads another peer sends a byte,
 /// so that the network has something to give.
 fn read_pieces(
-    net: &mut MioNet<HostRuntime>,
+    net: &mut MioNet<SystemReal<HostRuntime>>,
     peer: &mut TcpStream,
     other: &mut TcpStream,
 ) -> Result<u64, Fail> {
@@ -123,7 +123,7 @@ fn read_pieces(
 }
 
 /// Lets some ticks pass in turn.
-fn pause(net: &mut MioNet<HostRuntime>) -> Result<(), Fail> {
+fn pause(net: &mut MioNet<SystemReal<HostRuntime>>) -> Result<(), Fail> {
     let mut buffer = [0; 4096];
     for _ in 0..PAUSE {
         if event(net, &mut buffer) != Some(What::Tick) {
@@ -136,7 +136,7 @@ fn pause(net: &mut MioNet<HostRuntime>) -> Result<(), Fail> {
 /// Reads after a pause all bytes that were sent before it.
 fn read_after_pause(
     rt: &HostRuntime,
-    net: &mut MioNet<HostRuntime>,
+    net: &mut MioNet<SystemReal<HostRuntime>>,
     peer: &mut TcpStream,
     other: &mut TcpStream,
 ) -> Result<(), Fail> {
@@ -150,7 +150,7 @@ fn read_after_pause(
     Ok(())
 }
 
-fn connect_and_pause(rt: &HostRuntime, net: &mut MioNet<HostRuntime>) -> Result<(), Fail> {
+fn connect_and_pause(rt: &HostRuntime, net: &mut MioNet<SystemReal<HostRuntime>>) -> Result<(), Fail> {
     let ports = listen_on_free_ports(rt, net, 0)?;
     let mut peer = connected_as(rt, net, ports, 0)?;
     let mut other = connected_as(rt, net, ports, 1)?;
@@ -159,7 +159,7 @@ fn connect_and_pause(rt: &HostRuntime, net: &mut MioNet<HostRuntime>) -> Result<
 
 #[test]
 fn a_peer_that_pauses_gets_all_that_was_kept(rt: HostRuntime) -> Result<(), Fail> {
-    let mut net = MioNet::new(rt.clone()?);
+    let mut net = MioNet::new(SystemReal::new(rt.clone()?));
     connect_and_pause(&rt, &mut net)
 }
 
@@ -177,7 +177,7 @@ fn hear_to_the_end(peer: &mut TcpStream) -> Result<(), Fail> {
 /// A connection that is closed has its number until its peer had two seconds.
 fn connect_again(
     rt: &HostRuntime,
-    net: &mut MioNet<HostRuntime>,
+    net: &mut MioNet<SystemReal<HostRuntime>>,
     ports: Ports,
 ) -> Result<(), Fail> {
     let _second = connected_as(rt, net, ports, 1)?;
@@ -186,7 +186,7 @@ fn connect_again(
     Ok(())
 }
 
-fn connect_and_close(rt: &HostRuntime, net: &mut MioNet<HostRuntime>) -> Result<(), Fail> {
+fn connect_and_close(rt: &HostRuntime, net: &mut MioNet<SystemReal<HostRuntime>>) -> Result<(), Fail> {
     let ports = listen_on_free_ports(rt, net, 0)?;
     let mut peer = connected_as(rt, net, ports, 0)?;
     net.send(0, b"reply", b"");
@@ -199,7 +199,7 @@ fn connect_and_close(rt: &HostRuntime, net: &mut MioNet<HostRuntime>) -> Result<
 
 #[test]
 fn a_closed_connection_waits_two_seconds_for_its_peer(rt: HostRuntime) -> Result<(), Fail> {
-    let mut net = MioNet::new(rt.clone()?);
+    let mut net = MioNet::new(SystemReal::new(rt.clone()?));
     connect_and_close(&rt, &mut net)
 }
 
@@ -218,7 +218,7 @@ fn read_on(peer: &mut TcpStream, place: u64) -> Result<u64, Fail> {
 }
 
 /// Ends the run, and gives the milliseconds that this took.
-fn finish(rt: &HostRuntime, net: &mut MioNet<HostRuntime>) -> Result<u128, Fail> {
+fn finish(rt: &HostRuntime, net: &mut MioNet<SystemReal<HostRuntime>>) -> Result<u128, Fail> {
     let begin = Instant::now(rt)?;
     net.finish();
     Ok(Instant::now(rt)?.duration_since(begin).as_millis())
@@ -227,7 +227,7 @@ fn finish(rt: &HostRuntime, net: &mut MioNet<HostRuntime>) -> Result<u128, Fail>
 /// A peer that reads gets all, while another never reads.
 fn read_to_the_end(
     rt: &HostRuntime,
-    net: &mut MioNet<HostRuntime>,
+    net: &mut MioNet<SystemReal<HostRuntime>>,
     peer: &mut TcpStream,
 ) -> Result<(), Fail> {
     peer.set_read_timeout(Some(Duration::from_millis(100)))?;
@@ -246,7 +246,7 @@ fn read_to_the_end(
     Ok(())
 }
 
-fn connect_and_finish(rt: &HostRuntime, net: &mut MioNet<HostRuntime>) -> Result<(), Fail> {
+fn connect_and_finish(rt: &HostRuntime, net: &mut MioNet<SystemReal<HostRuntime>>) -> Result<(), Fail> {
     let ports = listen_on_free_ports(rt, net, 0)?;
     let mut peer = connected_as(rt, net, ports, 0)?;
     let _other = connected_as(rt, net, ports, 1)?;
@@ -255,7 +255,7 @@ fn connect_and_finish(rt: &HostRuntime, net: &mut MioNet<HostRuntime>) -> Result
     read_to_the_end(rt, net, &mut peer)
 }
 
-fn finish_and_ask(rt: &HostRuntime, net: &mut MioNet<HostRuntime>) -> Result<(), Fail> {
+fn finish_and_ask(rt: &HostRuntime, net: &mut MioNet<SystemReal<HostRuntime>>) -> Result<(), Fail> {
     let mut buffer = [0; 4096];
     connect_and_finish(rt, net)?;
     if event(net, &mut buffer).is_some() {
@@ -266,6 +266,6 @@ fn finish_and_ask(rt: &HostRuntime, net: &mut MioNet<HostRuntime>) -> Result<(),
 
 #[test]
 fn what_is_kept_is_written_at_the_end_for_two_seconds(rt: HostRuntime) -> Result<(), Fail> {
-    let mut net = MioNet::new(rt.clone()?);
+    let mut net = MioNet::new(SystemReal::new(rt.clone()?));
     finish_and_ask(&rt, &mut net)
 }

@@ -1,7 +1,7 @@
 //! Everybody has a share: ticks, connections and datagrams.
 
 use crate::listening::{connected, connected_as, event, listen_on_free_ports};
-use servient_edge::{MioNet, What};
+use servient_edge::{MioNet, SystemReal, What};
 use std::io::Write;
 use std::net::{TcpStream, UdpSocket};
 use std::test::Fail;
@@ -22,7 +22,7 @@ const SLOW: u64 = 1500;
 /// Takes an event and serves it: a tick slowly, and to all else its peer sends something more.
 fn serve(
     rt: &HostRuntime,
-    net: &mut MioNet<HostRuntime>,
+    net: &mut MioNet<SystemReal<HostRuntime>>,
     stream: &mut TcpStream,
     socket: &UdpSocket,
     counts: &mut Counts,
@@ -56,7 +56,7 @@ fn socket_to(rt: &HostRuntime, coap: u16) -> Result<UdpSocket, Fail> {
 /// Serves until three ticks came. After each of them something else comes.
 fn serve_three_ticks(
     rt: &HostRuntime,
-    net: &mut MioNet<HostRuntime>,
+    net: &mut MioNet<SystemReal<HostRuntime>>,
     stream: &mut TcpStream,
     socket: &UdpSocket,
     counts: &mut Counts,
@@ -79,7 +79,7 @@ fn serve_three_ticks(
     Err("three ticks didn't come")?
 }
 
-fn serve_slowly(rt: &HostRuntime, net: &mut MioNet<HostRuntime>) -> Result<(), Fail> {
+fn serve_slowly(rt: &HostRuntime, net: &mut MioNet<SystemReal<HostRuntime>>) -> Result<(), Fail> {
     let ports = listen_on_free_ports(rt, net, 0)?;
     let mut stream = connected_as(rt, net, ports, 0)?;
     let socket = socket_to(rt, ports.coap)?;
@@ -99,7 +99,7 @@ fn serve_slowly(rt: &HostRuntime, net: &mut MioNet<HostRuntime>) -> Result<(), F
 
 #[test]
 fn slow_ticks_leave_room_for_all_else(rt: HostRuntime) -> Result<(), Fail> {
-    let mut net = MioNet::new(rt.clone()?);
+    let mut net = MioNet::new(SystemReal::new(rt.clone()?));
     serve_slowly(&rt, &mut net)
 }
 
@@ -118,7 +118,7 @@ fn write_to_all(peers: &mut Vec<TcpStream>) -> Result<(), Fail> {
 }
 
 /// The number of connections that were heard while a datagram came before each event.
-fn heard_beside(net: &mut MioNet<HostRuntime>, socket: &UdpSocket) -> Result<u32, Fail> {
+fn heard_beside(net: &mut MioNet<SystemReal<HostRuntime>>, socket: &UdpSocket) -> Result<u32, Fail> {
     let mut buffer = [0; 4096];
     let mut heard: u32 = 0;
     for _ in 0..EVENTS {
@@ -133,7 +133,7 @@ fn heard_beside(net: &mut MioNet<HostRuntime>, socket: &UdpSocket) -> Result<u32
 /// All are heard within a second.
 fn hear_all(
     rt: &HostRuntime,
-    net: &mut MioNet<HostRuntime>,
+    net: &mut MioNet<SystemReal<HostRuntime>>,
     socket: &UdpSocket,
 ) -> Result<(), Fail> {
     let begin = Instant::now(rt)?;
@@ -147,7 +147,7 @@ fn hear_all(
     Ok(())
 }
 
-fn flood(rt: &HostRuntime, net: &mut MioNet<HostRuntime>) -> Result<(), Fail> {
+fn flood(rt: &HostRuntime, net: &mut MioNet<SystemReal<HostRuntime>>) -> Result<(), Fail> {
     let ports = listen_on_free_ports(rt, net, 0)?;
     let mut peers = connected(rt, net, ports, OTHERS)?;
     let socket = socket_to(rt, ports.coap)?;
@@ -160,6 +160,6 @@ fn flood(rt: &HostRuntime, net: &mut MioNet<HostRuntime>) -> Result<(), Fail> {
 
 #[test]
 fn a_flood_of_datagrams_holds_nobody_up(rt: HostRuntime) -> Result<(), Fail> {
-    let mut net = MioNet::new(rt.clone()?);
+    let mut net = MioNet::new(SystemReal::new(rt.clone()?));
     flood(&rt, &mut net)
 }

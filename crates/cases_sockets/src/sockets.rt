@@ -1,7 +1,7 @@
 //! The network over the sockets of the machine: connections beyond its numbers, datagrams, and peers that don't read.
 
 use crate::listening::{Ports, connected_as, event, expect, listen_on_free_ports, next};
-use servient_edge::{MioNet, Net, What};
+use servient_edge::{MioNet, Net, SystemReal, What};
 use std::io::Read;
 use std::net::{TcpStream, UdpSocket};
 use std::test::Fail;
@@ -11,7 +11,7 @@ use std::time::Duration;
 const QUIET: u32 = 3;
 
 /// The number of connections that are opened until n ticks come in turn.
-fn opened(net: &mut MioNet<HostRuntime>, buffer: &mut [u8; 4096]) -> u32 {
+fn opened(net: &mut MioNet<SystemReal<HostRuntime>>, buffer: &mut [u8; 4096]) -> u32 {
     let mut count: u32 = 0;
     let mut ticks: u32 = 0;
     for _ in 0..200 {
@@ -45,7 +45,7 @@ fn connect_more(rt: &HostRuntime, ports: Ports, count: u32) -> Result<Vec<TcpStr
 /// Opens one connection and 64 more, and ends the first.
 fn fill(
     rt: &HostRuntime,
-    net: &mut MioNet<HostRuntime>,
+    net: &mut MioNet<SystemReal<HostRuntime>>,
     ports: Ports,
 ) -> Result<Vec<TcpStream>, Fail> {
     let mut buffer = [0; 4096];
@@ -57,7 +57,7 @@ fn fill(
     Ok(others)
 }
 
-fn fill_and_free(rt: &HostRuntime, net: &mut MioNet<HostRuntime>) -> Result<(), Fail> {
+fn fill_and_free(rt: &HostRuntime, net: &mut MioNet<SystemReal<HostRuntime>>) -> Result<(), Fail> {
     let ports = listen_on_free_ports(rt, net, 0)?;
     let _others = fill(rt, net, ports)?;
     expect(net, What::Ended(0))?;
@@ -66,14 +66,14 @@ fn fill_and_free(rt: &HostRuntime, net: &mut MioNet<HostRuntime>) -> Result<(), 
 
 #[test]
 fn a_65th_connection_waits_for_a_number(rt: HostRuntime) -> Result<(), Fail> {
-    let mut net = MioNet::new(rt.clone()?);
+    let mut net = MioNet::new(SystemReal::new(rt.clone()?));
     fill_and_free(&rt, &mut net)
 }
 
 /// A datagram that is too long, and one that is answered.
 fn ask_by_datagram(
     rt: &HostRuntime,
-    net: &mut MioNet<HostRuntime>,
+    net: &mut MioNet<SystemReal<HostRuntime>>,
     peer: &UdpSocket,
     coap: u16,
 ) -> Result<(), Fail> {
@@ -90,7 +90,7 @@ fn ask_by_datagram(
     Ok(())
 }
 
-fn ask_and_stop(rt: &HostRuntime, net: &mut MioNet<HostRuntime>) -> Result<(), Fail> {
+fn ask_and_stop(rt: &HostRuntime, net: &mut MioNet<SystemReal<HostRuntime>>) -> Result<(), Fail> {
     let ports = listen_on_free_ports(rt, net, 5000)?;
     let peer = UdpSocket::bind(rt, "127.0.0.1:0")?;
     peer.set_read_timeout(Some(Duration::from_secs(10)))?;
@@ -104,7 +104,7 @@ fn ask_and_stop(rt: &HostRuntime, net: &mut MioNet<HostRuntime>) -> Result<(), F
 
 #[test]
 fn datagrams_come_and_go_until_traffic_ends(rt: HostRuntime) -> Result<(), Fail> {
-    let mut net = MioNet::new(rt.clone()?);
+    let mut net = MioNet::new(SystemReal::new(rt.clone()?));
     ask_and_stop(&rt, &mut net)
 }
 
@@ -114,7 +114,7 @@ const PIECE: usize = 1_048_576;
 const PIECES: u32 = 64;
 
 /// Sends more to a peer than is kept.
-fn send_too_much(rt: &HostRuntime, net: &mut MioNet<HostRuntime>) -> Result<(), Fail> {
+fn send_too_much(rt: &HostRuntime, net: &mut MioNet<SystemReal<HostRuntime>>) -> Result<(), Fail> {
     let piece = vec![in rt.alloc(); 7u8; PIECE]?;
     for _ in 0..PIECES {
         net.send(0, b"head", piece.as_slice());
@@ -125,7 +125,7 @@ fn send_too_much(rt: &HostRuntime, net: &mut MioNet<HostRuntime>) -> Result<(), 
 /// Its number is that of another connection, for which the bytes that are sent now are meant.
 fn connect_another(
     rt: &HostRuntime,
-    net: &mut MioNet<HostRuntime>,
+    net: &mut MioNet<SystemReal<HostRuntime>>,
     ports: Ports,
 ) -> Result<(), Fail> {
     let _other = connected_as(rt, net, ports, 0)?;
@@ -134,7 +134,7 @@ fn connect_another(
     Ok(())
 }
 
-fn read_too_late(rt: &HostRuntime, net: &mut MioNet<HostRuntime>) -> Result<(), Fail> {
+fn read_too_late(rt: &HostRuntime, net: &mut MioNet<SystemReal<HostRuntime>>) -> Result<(), Fail> {
     let ports = listen_on_free_ports(rt, net, 0)?;
     let mut peer = connected_as(rt, net, ports, 0)?;
     send_too_much(rt, net)?;
@@ -149,6 +149,6 @@ fn read_too_late(rt: &HostRuntime, net: &mut MioNet<HostRuntime>) -> Result<(), 
 
 #[test]
 fn a_peer_that_never_reads_loses_its_connection(rt: HostRuntime) -> Result<(), Fail> {
-    let mut net = MioNet::new(rt.clone()?);
+    let mut net = MioNet::new(SystemReal::new(rt.clone()?));
     read_too_late(&rt, &mut net)
 }

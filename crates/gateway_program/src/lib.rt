@@ -13,7 +13,7 @@ use file_devices::DeviceEntries;
 use handlers::handlers_of;
 use servient_base::NoMemory;
 use servient_cli::{report, servient_main};
-use servient_edge::{FilesReal, MioNet, OutReal};
+use servient_edge::{FilesReal, MioNet, OutReal, SystemReal};
 use servient_program::{after_first, out_of_memory, process_words};
 use std::io;
 use std::process::ExitCode;
@@ -59,7 +59,7 @@ fn run_command(rt: &HostRuntime, entries: &DeviceEntries, words: &[Text]) -> Res
     }
     let mut rack = Rack::new(alloc, list);
     let mut files = FilesReal::new(rt.clone()?);
-    let mut net = MioNet::new(rt.clone()?);
+    let mut net = MioNet::new(SystemReal::new(rt.clone()?));
     let mut out = OutReal::new(io::writer(rt));
     let status = servient_main(alloc, words, &mut files, &mut net, &mut rack, &mut out);
     net.finish();

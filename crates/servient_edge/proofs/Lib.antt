@@ -1,3 +1,4 @@
+pub mod AddressLaws
 pub mod BytesInTurns
 pub mod SendingLaws
 pub mod NamingLaws

@@ -1,5 +1,5 @@
 -- The bytes that a connection gives and keeps.
-use Rattle.std.specs.Prelude.{◌≡◌, ◌≤◌, ℕ, Bool, true, false, List, [], ◌++◌, is_some, if◌then◌else◌}
+use Rattle.std.specs.Prelude.{◌≡◌, ◌≤◌, ◌-◌, ℕ, Bool, true, false, List, [], ◌++◌, length, Option, Some, None, is_some, nat_lt, nat_le, if◌then◌else◌}
 use Rattle.servient_edge.specs.declared.connection.Connection.{Connection}
 use Rattle.servient_edge.specs.declared.turns.Took.{Took}
 use Rattle.servient_edge.specs.declared.turns.Took.TheVariants as took
@@ -20,6 +20,19 @@ IsEnd took.Unwanted = ⊥
 IsEnd took.Nothing = ⊥
 IsEnd took.Ended = Unit {0}
 IsEnd took.Over = Unit {0}
+
+-- whether something is kept
+abbrev pub has_any : List ℕ → Bool
+has_any kept = nat_lt 0 (length kept)
+
+-- Whether a connection was closed and its peer has had its time at a moment: two seconds once nothing is kept, and
+-- thirty as long as something is.
+abbrev pub over_since : Option ℕ → List ℕ → ℕ → Bool
+over_since None kept moment = false
+over_since (Some since) kept moment = nat_le (if has_any kept then 30_000 else 2_000) (moment - since)
+
+abbrev pub is_over_at : Connection → ℕ → Bool
+is_over_at connection moment = over_since connection.closed connection.kept moment
 
 -- of what was kept, and then a message, a front has gone, and the rest is kept
 abbrev pub KeepsRest : List ℕ → List ℕ → List ℕ → Type 0

@@ -1,3 +1,4 @@
+pub mod Addresses
 pub mod Moments
 pub mod Timing
 pub mod Sending

@@ -1,19 +1,18 @@
 -- The moments of a network, in milliseconds.
-use Rattle.std.specs.Prelude.{◌≡◌, ℕ, ◌-◌, ◌/◌, ◌^◌, min, max, Result, Ok, Err, Some}
-use Rattle.std.specs.Time.{instant_nanos}
-use Rattle.std.specs.declared.time.Instant.{Instant}
+use Rattle.std.specs.Prelude.{◌≡◌, ℕ, ◌-◌, ◌/◌, ◌^◌, min, max, Result, Ok, Err}
 use Rattle.servient_edge.specs.declared.moments.Moments.{Moments}
 use Rattle.servient_outside.specs.declared.net.Next.{Next}
 use Rattle.servient_outside.specs.declared.net.Next.TheVariants as next
 
--- the milliseconds from one instant to another, 10^15 at most, and none where the other is earlier
-abbrev pub moment_of : Instant → Instant → ℕ
-moment_of start now = min (10 ^ 15) ((instant_nanos now - instant_nanos start) / 1_000_000)
+-- the milliseconds from one time of the clock to another, which it gives in nanoseconds: 10^15 at most, and none where
+-- the other is earlier
+abbrev pub moment_of : ℕ → ℕ → ℕ
+moment_of start now = min (10 ^ 15) ((now - start) / 1_000_000)
 
--- The clock was read: the moment is then the greater of the last one and that of the instant that was read. Where it
+-- The clock was read: the moment is then the greater of the last one and that of the time that was read. Where it
 -- can't be read, the moment stays.
-abbrev pub Reads : {E : Type 0} → Moments → Result Instant E → Moments → Type 0
-Reads before (Ok now) after = (start : Instant) × (before.start ≡ Some start) × (after.start ≡ Some start) × (after.last ≡ max before.last (moment_of start now))
+abbrev pub Reads : {E : Type 0} → Moments → Result ℕ E → Moments → Type 0
+Reads before (Ok now) after = (start : ℕ) × (before.start ≡ Ok start) × (after.start ≡ Ok start) × (after.last ≡ max before.last (moment_of start now))
 Reads before (Err e) after = (after.start ≡ before.start) × (after.last ≡ before.last)
 
 -- an event is given at this moment, if one is given

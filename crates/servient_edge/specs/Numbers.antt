@@ -1,5 +1,5 @@
 -- The standings of the numbers of connections, and the number that an event names.
-use Rattle.std.specs.Prelude.{◌≡◌, ◌≤◌, ◌⊎◌, ℕ, List, Option, Some, None, is_some, slice_index_or, slice_set, if◌then◌else◌}
+use Rattle.std.specs.Prelude.{◌≡◌, ◌≢◌, ◌≤◌, ◌<◌, ◌⊎◌, ℕ, List, Option, Some, None, is_some, slice_index_or, slice_set, if◌then◌else◌}
 use Rattle.servient_outside.specs.declared.net.What.{What}
 use Rattle.servient_outside.specs.declared.net.What.TheVariants as what
 use Rattle.servient_edge.specs.declared.number.Number.{Number}
@@ -7,7 +7,7 @@ use Rattle.servient_edge.specs.declared.number.Number.TheVariants as number
 use Rattle.servient_edge.specs.declared.numbers.Numbers.{Numbers}
 use Rattle.servient_edge.specs.declared.turns.Took.{Took}
 use Rattle.servient_edge.specs.declared.turns.Took.TheVariants as took
-use Rattle.servient_edge.specs.Connection.{KeepsRest, Leaves, sent_by}
+use Rattle.servient_edge.specs.Connection.{KeepsRest, Leaves, is_over_at, sent_by}
 
 -- a number stands for this: nothing, a connection that is open, one that is closed and not over yet, or one that was
 -- given up and whose end is still to be given
@@ -21,6 +21,12 @@ abbrev pub standing : Number → Standing
 standing number.Free = vacant
 standing (number.Used connection) = if is_some connection.closed then closing else connected
 standing number.GivenUp = given_up
+
+-- what is left of a holder at a moment: a connection that was closed and has had its time is none any more
+abbrev pub left_of : ℕ → Number → Number
+left_of moment number.Free = number.Free
+left_of moment (number.Used connection) = if is_over_at connection moment then number.Free else number.Used connection
+left_of moment number.GivenUp = number.GivenUp
 
 -- the holder of this number
 abbrev pub number_at : ℕ → Numbers → Number
@@ -47,6 +53,11 @@ TakesFrom before took.Unwanted after = (before ≡ closing) × (after ≡ closin
 TakesFrom before took.Nothing after = after ≡ before
 TakesFrom before took.Ended after = ((before ≡ connected) ⊎ (before ≡ given_up)) × (after ≡ vacant)
 TakesFrom before took.Over after = (before ≡ closing) × (after ≡ vacant)
+
+-- it is the least number that is vacant, or else none of 64 is
+abbrev pub IsLeastVacant : Numbers → Option ℕ → Type 0
+IsLeastVacant n (Some c) = (standing_at c n ≡ vacant) × ((other : ℕ) → other < c → standing_at other n ≢ vacant)
+IsLeastVacant n None = (other : ℕ) → other < 64 → standing_at other n ≢ vacant
 
 -- sending may give up an open connection, and changes nothing else
 abbrev pub SendsOn : Standing → Standing → Type 0

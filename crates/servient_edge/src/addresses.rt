@@ -1,24 +1,27 @@
 //! Addresses of hosts. Only IPv4 is used; an endpoint has it in its mapped form.
 
-use coap_msg::Endpoint;
-use std::io::{self, ErrorKind};
-use std::net::{IpAddr, Ipv6Addr, Net, SocketAddr, ToSocketAddrs};
+ghost use Rattle.std.specs.Prelude.{◌≡◌, IfOk, OnErr};
+ghost use Rattle.std.specs.Net.Addr.{ipv4_bits, IsIpv4OfBits};
+ghost use Rattle.std.specs.Net.Socket.{socket_ip, socket_port};
+ghost use Rattle.servient_edge.specs.Addresses.{host_of, IsNotMapped};
 
-/// The first IPv4 address of a host, which is an address in text or a name. A name may be looked up, and the thread
-/// waits for that.
-pub fn resolve<R: Net>(rt: &R, host: &str, port: u16) -> io::Result<SocketAddr> {
-    for address in (host, port).to_socket_addrs(rt)? {
-        if address.is_ipv4() {
-            return Ok(address);
-        }
-    }
-    Err(io::Error::from(ErrorKind::AddrNotAvailable))
-}
+use coap_msg::Endpoint;
+use servient_system::Refusal;
+use std::net::{IpAddr, Ipv4Addr, SocketAddr};
+
+/// There is no IPv4 address (EADDRNOTAVAIL).
+pub const NO_ADDRESS: Refusal = Refusal::Failed(99);
+
+// The address ::ffff:0.0.0.0, behind which the others stand in their mapped form.
+const MAPPED: u128 = 0xffff_0000_0000;
 
 /// The endpoint of an address.
-pub fn endpoint_of(address: SocketAddr) -> Endpoint {
+pub fn endpoint_of(address: SocketAddr) -> Endpoint
+    ensures host { result.host ≡ host_of (socket_ip address) }
+    ensures port { result.port ≡ socket_port address }
+{
     let host = match address.ip() {
-        IpAddr::V4(ip) => ip.to_ipv6_mapped().to_bits(),
+        IpAddr::V4(ip) => MAPPED + u128::from(ip.to_bits()),
         IpAddr::V6(ip) => ip.to_bits(),
     };
     Endpoint {
@@ -27,10 +30,28 @@ pub fn endpoint_of(address: SocketAddr) -> Endpoint {
     }
 }
 
-/// The IPv4 address of an endpoint, if it has one.
-pub fn address_of(endpoint: Endpoint) -> Option<SocketAddr> {
-    match Ipv6Addr::from_bits(endpoint.host).to_ipv4_mapped() {
-        Some(ip) => Some(SocketAddr::new(IpAddr::V4(ip), endpoint.port)),
-        None => None,
+/// The IPv4 address of an endpoint; refused where it has none.
+pub fn address_of(endpoint: Endpoint) -> Result<SocketAddr, Refusal>
+    ensures host { IfOk result (λ address. host_of (socket_ip address) ≡ endpoint.host) }
+    ensures port { IfOk result (λ address. socket_port address ≡ endpoint.port) }
+    ensures refused { OnErr result (IsNotMapped endpoint.host) }
+{
+    let Some(bits) = endpoint.host.checked_sub(MAPPED) else {
+        return Err(NO_ADDRESS);
+    };
+    match u32::try_from(bits) {
+        Ok(bits) => {
+            let ip = ipv4_of(bits);
+            Ok(SocketAddr::new(IpAddr::V4(ip), endpoint.port))
+        }
+        Err(_) => Err(NO_ADDRESS),
     }
+}
+
+/// The IPv4 address of a number.
+#[tactic(auto, using(crate::proofs::AddressLaws::bits_of))]
+fn ipv4_of(bits: u32) -> Ipv4Addr
+    ensures { ipv4_bits result ≡ bits }
+{
+    Ipv4Addr::from_bits(bits)
 }

@@ -1,51 +1,52 @@
 //! A connection that is opened from here, and the wait until it is there.
 
-use mio::net::TcpStream;
-use mio::{Events, Interest, Poll, Token};
-use std::alloc::Global;
-use std::io::{self, ErrorKind};
-use std::net::{Net, SocketAddr};
-use std::rt::Clock;
-use std::time::{Duration, Instant};
+use coap_msg::Endpoint;
+use servient_base::ConnectionId;
+use servient_system::{Refusal, System};
 
-// The number of seconds that a peer has to answer.
-const LIMIT: u64 = 10;
+// The milliseconds that a peer has to answer.
+const LIMIT: u64 = 10_000;
+
+const NANOSECONDS: u64 = 1_000_000;
 
 // The system may return early, but not without end.
 const ASKS: u32 = 1024;
 
-/// Connects to an address, and waits until the connection is there.
-pub fn connect<R: Net + Clock>(
-    rt: &R,
-    alloc: Global,
-    address: SocketAddr,
-) -> io::Result<TcpStream> {
-    let mut poll = Poll::new(rt)?;
-    let mut events = Events::with_capacity(alloc, 1)?;
-    let mut stream = TcpStream::connect(rt, address)?;
-    poll.registry()
-        .register(&mut stream, Token(0), Interest::WRITABLE)?;
-    wait(rt, &mut poll, &mut events)?;
-    if let Some(error) = stream.take_error()? {
-        return Err(error);
+// The connection isn't there in time (ETIMEDOUT).
+const TIMED_OUT: i32 = 110;
+
+/// Connects to an address under a number that is free, and waits until the connection is there. After a refusal the
+/// number is free again.
+pub fn connect<S: System>(
+    system: &mut S,
+    c: ConnectionId,
+    address: Endpoint,
+) -> Result<(), Refusal> {
+    let connected = open(system, c, address);
+    if connected.is_err() {
+        system.give_up(c);
     }
-    stream.peer_addr()?;
-    Ok(stream)
+    connected
+}
+
+fn open<S: System>(system: &mut S, c: ConnectionId, address: Endpoint) -> Result<(), Refusal> {
+    system.dial(c, address)?;
+    wait(system)?;
+    system.connected(c)?;
+    system.attach(c)
 }
 
 /// Waits until something is reported.
-fn wait<R: Clock>(rt: &R, poll: &mut Poll, events: &mut Events) -> io::Result<()> {
-    let limit = Duration::from_secs(LIMIT);
-    let start = Instant::now(rt)?;
+fn wait<S: System>(system: &mut S) -> Result<(), Refusal> {
+    let start = system.now()?;
     for _ in 0..ASKS {
-        let passed = Instant::now(rt)?.duration_since(start);
-        if passed >= limit {
+        let passed = system.now()?.saturating_sub(start) / NANOSECONDS;
+        if passed >= LIMIT {
             break;
         }
-        poll.poll(events, Some(limit.saturating_sub(passed)))?;
-        if !events.is_empty() {
+        if system.poll_dialled(LIMIT - passed)? {
             return Ok(());
         }
     }
-    Err(io::Error::from(ErrorKind::TimedOut))
+    Err(Refusal::Failed(TIMED_OUT))
 }

@@ -2,7 +2,8 @@
 //!
 //! The traits that they meet, and their versions in memory, are those of `servient_outside`, exported here too. An
 //! adapter records nothing of what happened but its count of faults, since no contract says what a socket or a file
-//! gives.
+//! gives. The network, `MioNet`, asks a `System` of `servient_system` for all that it needs of the machine: that in memory,
+//! or `SystemReal`, which calls mio and std, and alone knows a socket.
 //!
 //! ```
 //! use servient_edge::{Files, FilesReal, Got, Out, OutReal, Put};
@@ -30,6 +31,7 @@ mod out_real;
 mod sending;
 mod sockets;
 mod starting;
+mod system_real;
 mod timing;
 mod turns;
 
@@ -40,3 +42,4 @@ pub use servient_outside::{
     Act, Calls, Dialled, Event, EventWithBytes, Events, FileRead, Files, FilesMemory, Found, Got,
     Held, HeldFile, Listened, Net, NetMemory, Next, NoMemory, Out, OutMemory, Place, Put, What,
 };
+pub use system_real::SystemReal;

@@ -1,5 +1,5 @@
-//! The network over the sockets of the machine, in one thread. Neither its happenings are recorded nor are the events
-//! to come known: it counts failures.
+//! The network over the sockets of a system, in one thread. Neither its happenings are recorded nor are the events to
+//! come known: it counts failures.
 
 ghost use Rattle.std.specs.Prelude.{◌≡◌, ◌≤◌, IfOk, IfSome, length};
 ghost use Rattle.servient_base.specs.Count.{Rose};
@@ -14,11 +14,8 @@ use crate::timing::{DueEvent, Timing};
 use coap_msg::Endpoint;
 use servient_base::ConnectionId;
 use servient_outside::{Dialled, Event, Found, Listened, Net, Next, Place, What};
+use servient_system::{Refusal, System};
 use std::alloc::Global;
-use std::io::{self, ErrorKind};
-use std::net;
-use std::rt::Clock;
-use std::time::Instant;
 
 // The system is asked this many times for one event. A report of which nothing comes is no event, and it is asked
 // again.
@@ -30,8 +27,8 @@ const PAUSES: u32 = 1000;
 
 /// The network over sockets.
 #[derive(Drop)]
-pub struct MioNet<R: net::Net + Clock + Drop> {
-    pub(crate) rt: R,
+pub struct MioNet<S: System + Drop> {
+    pub(crate) system: S,
     pub(crate) moments: Moments,
     pub(crate) sockets: Option<Sockets>,
     // Since it listens, has dialled or has looked something up.
@@ -39,24 +36,28 @@ pub struct MioNet<R: net::Net + Clock + Drop> {
     faults: u64,
 }
 
-/// There are no sockets yet, or the clock failed.
-fn not_ready() -> io::Error {
-    io::Error::from(ErrorKind::NotConnected)
-}
+/// There is no such socket, or no clock (ENOTCONN).
+pub const NOT_READY: Refusal = Refusal::Failed(107);
 
-impl<R: net::Net + Clock + Drop> MioNet<R> {
-    /// The network of this runtime. Its moments count from now.
-    pub fn new(rt: R) -> MioNet<R>
+impl<S: System + Drop> MioNet<S> {
+    /// The network of this system. Its moments count from now.
+    pub fn new(system: S) -> MioNet<S>
         ensures { result.faults ≡ 0 }
     {
-        let moments = Moments::new(&rt);
+        let mut system = system;
+        let moments = Moments::new(&mut system);
         MioNet {
-            rt,
+            system,
             moments,
             sockets: None,
             timing: None,
             faults: 0,
         }
+    }
+
+    /// The system that it asks.
+    pub fn system(&self) -> &S {
+        &self.system
     }
 
     /// Writes what is kept for connections, for two seconds at most, and drops what is left with all sockets. It is
@@ -65,20 +66,21 @@ impl<R: net::Net + Clock + Drop> MioNet<R> {
         ensures { self.new.faults ≡ self.old.faults }
     {
         if let Some(sockets) = &mut self.sockets {
-            write_kept(&self.rt, &mut self.moments, sockets);
+            write_kept(&mut self.system, &mut self.moments, sockets);
+            sockets.give_up(&mut self.system);
         }
         self.sockets = None;
         self.timing = None;
     }
 
     /// Reads the clock, and gives what it read.
-    pub(crate) fn read_clock(&mut self) -> io::Result<Instant>
+    pub(crate) fn read_clock(&mut self) -> Result<u64, Refusal>
         ensures moment { Reads self.old.moments result self.new.moments }
         ensures rises { self.old.moments.last ≤ self.new.moments.last }
         ensures faults { self.new.faults ≡ self.old.faults }
         ensures numbers { numbers_of self.new.sockets ≡ numbers_of self.old.sockets }
     {
-        self.moments.read(&self.rt)
+        self.moments.read(&mut self.system)
     }
 
     fn count_fault(&mut self)
@@ -90,7 +92,7 @@ impl<R: net::Net + Clock + Drop> MioNet<R> {
     }
 
     /// Reads the clock, before the next event is looked for, and gives what it read.
-    fn begin(&mut self) -> io::Result<Instant>
+    fn begin(&mut self) -> Result<u64, Refusal>
         ensures moment { Reads self.old.moments result self.new.moments }
         ensures rises { self.old.moments.last ≤ self.new.moments.last }
         ensures numbers { numbers_of self.new.sockets ≡ numbers_of self.old.sockets }
@@ -104,10 +106,10 @@ impl<R: net::Net + Clock + Drop> MioNet<R> {
     }
 
     /// The event that is due now.
-    fn due(&self) -> io::Result<DueEvent> {
+    fn due(&self) -> Result<DueEvent, Refusal> {
         match &self.timing {
             Some(timing) => Ok(timing.due(self.moments.last())),
-            None => Err(not_ready()),
+            None => Err(NOT_READY),
         }
     }
 
@@ -136,7 +138,10 @@ impl<R: net::Net + Clock + Drop> MioNet<R> {
         ensures faults { self.old.faults ≤ self.new.faults }
     {
         match &mut self.sockets {
-            Some(sockets) => sockets.take(buffer, self.moments.last(), &mut self.faults),
+            Some(sockets) => {
+                let moment = self.moments.last();
+                sockets.take(&mut self.system, buffer, moment, &mut self.faults)
+            }
             None => None,
         }
     }
@@ -153,19 +158,19 @@ impl<R: net::Net + Clock + Drop> MioNet<R> {
     }
 
     /// Asks without waiting what the system has, unless it was asked at this moment.
-    fn look(&mut self) -> io::Result<()>
+    fn look(&mut self) -> Result<(), Refusal>
         ensures moments { self.new.moments ≡ self.old.moments }
         ensures numbers { numbers_of self.new.sockets ≡ numbers_of self.old.sockets }
         ensures faults { self.new.faults ≡ self.old.faults }
     {
         match &mut self.sockets {
-            Some(sockets) => sockets.look(self.moments.last()),
-            None => Err(not_ready()),
+            Some(sockets) => sockets.look(&mut self.system, self.moments.last()),
+            None => Err(NOT_READY),
         }
     }
 
     /// Waits until the system has something, or something is due. Then it reads the clock, and gives what it read.
-    fn ask(&mut self) -> io::Result<Instant>
+    fn ask(&mut self) -> Result<u64, Refusal>
         ensures moment { Reads self.old.moments result self.new.moments }
         ensures rises { self.old.moments.last ≤ self.new.moments.last }
         ensures numbers { numbers_of self.new.sockets ≡ numbers_of self.old.sockets }
@@ -177,34 +182,34 @@ impl<R: net::Net + Clock + Drop> MioNet<R> {
     }
 
     /// The number of milliseconds until something is due.
-    fn time_left(&self) -> io::Result<u64> {
+    fn time_left(&self) -> Result<u64, Refusal> {
         match &self.timing {
             Some(timing) => Ok(timing.left(self.moments.last())),
-            None => Err(not_ready()),
+            None => Err(NOT_READY),
         }
     }
 
     /// Waits until the system has something, and for this many milliseconds at most.
-    fn ask_for(&mut self, time: u64) -> io::Result<()>
+    fn ask_for(&mut self, time: u64) -> Result<(), Refusal>
         ensures moments { self.new.moments ≡ self.old.moments }
         ensures numbers { numbers_of self.new.sockets ≡ numbers_of self.old.sockets }
         ensures faults { self.new.faults ≡ self.old.faults }
     {
         match &mut self.sockets {
-            Some(sockets) => sockets.ask(self.moments.last(), time),
-            None => Err(not_ready()),
+            Some(sockets) => sockets.ask(&mut self.system, self.moments.last(), time),
+            None => Err(NOT_READY),
         }
     }
 
     /// Lets a millisecond pass.
-    fn pause(&mut self) -> io::Result<()>
+    fn pause(&mut self) -> Result<(), Refusal>
         ensures moments { self.new.moments ≡ self.old.moments }
         ensures numbers { numbers_of self.new.sockets ≡ numbers_of self.old.sockets }
         ensures faults { self.new.faults ≡ self.old.faults }
     {
         match &mut self.sockets {
-            Some(sockets) => sockets.pause(),
-            None => Err(not_ready()),
+            Some(sockets) => sockets.pause(&mut self.system),
+            None => Err(NOT_READY),
         }
     }
 
@@ -217,14 +222,14 @@ impl<R: net::Net + Clock + Drop> MioNet<R> {
     {
         if let (Some(sockets), Some(timing)) = (&mut self.sockets, &mut self.timing) {
             timing.since = None;
-            sockets.tick(self.moments.last());
+            sockets.tick(&mut self.system, self.moments.last());
         }
     }
 
     /// The next event. A tick comes by the clock, after all that waits had its turn, but for one that is due after an
     /// event, so that the work on ticks or on events may take any time, and each has its share.
     #[tactic(auto, using(crate::proofs::NamingLaws::names_later, crate::proofs::NamingLaws::settles_same))]
-    fn come(&mut self, buffer: &mut [u8]) -> io::Result<What>
+    fn come(&mut self, buffer: &mut [u8]) -> Result<What, Refusal>
         requires { length buffer.old ≡ 4096 }
         ensures what { IfOk result MayCome }
         ensures names { Names (numbers_of self.old.sockets) (what_of result) (numbers_of self.new.sockets) }
@@ -245,7 +250,7 @@ impl<R: net::Net + Clock + Drop> MioNet<R> {
 
     /// The next event, once the system has something or the time is over.
     #[tactic(auto, using(crate::proofs::NamingLaws::names_later, crate::proofs::NamingLaws::settles_same, crate::proofs::NamingLaws::settles_twice))]
-    fn wait(&mut self, buffer: &mut [u8]) -> io::Result<What>
+    fn wait(&mut self, buffer: &mut [u8]) -> Result<What, Refusal>
         requires { length buffer.old ≡ 4096 }
         ensures what { IfOk result MayCome }
         ensures names { Names (numbers_of self.old.sockets) (what_of result) (numbers_of self.new.sockets) }
@@ -271,7 +276,7 @@ impl<R: net::Net + Clock + Drop> MioNet<R> {
     }
 }
 
-impl<R: net::Net + Clock + Drop> Net for MioNet<R> {
+impl<S: System + Drop> Net for MioNet<S> {
     ghost use Rattle.std.specs.Prelude.{◌≡◌, ◌≢◌, ◌<◌, [], ◌∷◌, ◌++◌, length};
     ghost use Rattle.servient_outside.specs.declared.net.Act.TheVariants as act;
     ghost use Rattle.servient_outside.specs.Network.{NetShows, did, came, IsAnswer, IsConnection};
@@ -289,8 +294,8 @@ impl<R: net::Net + Clock + Drop> Net for MioNet<R> {
     {
         match self.start_listening(alloc, place) {
             Ok(()) => Listened::Ready,
-            Err(error) => {
-                if error.kind() == ErrorKind::OutOfMemory {
+            Err(refusal) => {
+                if refusal == Refusal::NoMemory {
                     return Listened::NoMemory;
                 }
                 self.count_fault();
@@ -328,7 +333,7 @@ impl<R: net::Net + Clock + Drop> Net for MioNet<R> {
         ensures number { c < 64 → ChangesOne SendsOn c (numbers_of self.old.sockets) (numbers_of self.new.sockets) }
     {
         if let Some(sockets) = &mut self.sockets {
-            sockets.send(c, head, body);
+            sockets.send(&mut self.system, c, head, body);
         }
     }
 
@@ -338,7 +343,7 @@ impl<R: net::Net + Clock + Drop> Net for MioNet<R> {
         ensures number { c < 64 → ChangesOne (λ before after. IsSilent after) c (numbers_of self.old.sockets) (numbers_of self.new.sockets) }
     {
         if let Some(sockets) = &mut self.sockets {
-            sockets.close(c, self.moments.last());
+            sockets.close(&mut self.system, c, self.moments.last());
         }
     }
 
@@ -348,7 +353,7 @@ impl<R: net::Net + Clock + Drop> Net for MioNet<R> {
         ensures numbers { numbers_of self.new.sockets ≡ numbers_of self.old.sockets }
     {
         if let Some(sockets) = &self.sockets {
-            sockets.datagram(to, bytes);
+            sockets.datagram(&mut self.system, to, bytes);
         }
     }
 
@@ -360,8 +365,8 @@ impl<R: net::Net + Clock + Drop> Net for MioNet<R> {
     {
         match self.connect(alloc, host, port) {
             Ok(c) => Dialled::Connected(c),
-            Err(error) => {
-                if error.kind() == ErrorKind::OutOfMemory {
+            Err(refusal) => {
+                if refusal == Refusal::NoMemory {
                     return Dialled::NoMemory;
                 }
                 self.count_fault();
@@ -376,8 +381,8 @@ impl<R: net::Net + Clock + Drop> Net for MioNet<R> {
     {
         match self.look_up(alloc, host, port) {
             Ok(endpoint) => Found::At(endpoint),
-            Err(error) => {
-                if error.kind() == ErrorKind::OutOfMemory {
+            Err(refusal) => {
+                if refusal == Refusal::NoMemory {
                     return Found::NoMemory;
                 }
                 self.count_fault();

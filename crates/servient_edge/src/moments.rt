@@ -1,20 +1,19 @@
 //! The moments of a network: the milliseconds since it was made, as far as the clock was read.
 
-ghost use Rattle.std.specs.Prelude.{◌≡◌, ◌≤◌, ◌^◌, ◌/◌, min};
-ghost use Rattle.std.specs.Duration.{as_nanos};
+ghost use Rattle.std.specs.Prelude.{◌≡◌, ◌≤◌, ◌-◌, ◌^◌, ◌/◌, min};
 
-use std::io::{self, ErrorKind};
-use std::rt::Clock;
-use std::time::{Duration, Instant};
+use servient_system::{Refusal, System};
 
 // The last moment that there is: some 31,000 years.
 const END: u64 = 1_000_000_000_000_000;
 
+const NANOSECONDS: u64 = 1_000_000;
+
 /// The moment at which a network was made, and the last moment that was read. Moments never fall.
 #[derive(Drop)]
 pub struct Moments {
-    // None where the clock failed.
-    start: Option<Instant>,
+    // In nanoseconds of the system's clock. The refusal, where the clock failed.
+    start: Result<u64, Refusal>,
     last: u64,
     ghost last_in_bounds: { last ≤ 10 ^ 15 },
 }
@@ -23,11 +22,11 @@ impl Moments {
     ghost use Rattle.servient_edge.specs.Moments.{Reads};
 
     /// Moments that count from now.
-    pub fn new<R: Clock>(rt: &R) -> Moments
+    pub fn new<S: System>(system: &mut S) -> Moments
         ensures { result.last ≡ 0 }
     {
         Moments {
-            start: Instant::now(rt).ok(),
+            start: system.now(),
             last: 0,
         }
     }
@@ -41,28 +40,20 @@ impl Moments {
     }
 
     /// Reads the clock, and gives what it read.
-    pub fn read<R: Clock>(&mut self, rt: &R) -> io::Result<Instant>
+    pub fn read<S: System>(&mut self, system: &mut S) -> Result<u64, Refusal>
         ensures moment { Reads self.old result self.new }
         ensures rises { self.old.last ≤ self.new.last }
     {
-        let Some(start) = self.start else {
-            return Err(io::Error::from(ErrorKind::Unsupported));
-        };
-        let now = Instant::now(rt)?;
-        let moment = moment_after(now.duration_since(start));
-        self.last = self.last.max(moment);
+        let start = self.start?;
+        let now = system.now()?;
+        self.last = self.last.max(moment_after(start, now));
         Ok(now)
     }
 }
 
-/// The moment after a time that has passed.
-fn moment_after(passed: Duration) -> u64
-    ensures { result ≡ min (10 ^ 15) (as_nanos passed / 1_000_000) }
+/// The moment at a time of the clock, where it counts from another.
+fn moment_after(start: u64, now: u64) -> u64
+    ensures { result ≡ min (10 ^ 15) ((now - start) / 1_000_000) }
 {
-    let passed = passed.as_millis();
-    if passed > END as u128 {
-        END
-    } else {
-        passed as u64
-    }
+    (now.saturating_sub(start) / NANOSECONDS).min(END)
 }

@@ -6,28 +6,25 @@ ghost use Rattle.std.specs.Prelude.{◌≡◌, ◌≤◌, ◌<◌, IfOk, IfSome,
 ghost use Rattle.servient_outside.specs.Network.{MayCome};
 ghost use Rattle.servient_edge.specs.Numbers.{Gives, Comes, ChangesAt, SendsOn, IsSilent, Settles};
 
-use crate::accepting::{Accepted, accept, set_up};
-use crate::addresses::{address_of, endpoint_of};
+use crate::accepting::{Accepted, accept};
 use crate::connection::Connection;
 use crate::dialling::connect;
 use crate::numbers::Numbers;
-use crate::turns::{CONNECTIONS, LISTENER, Took, Turns};
+use crate::turns::{CONNECTIONS, DATAGRAMS, LISTENER, Took, Turns};
 use coap_msg::Endpoint;
-use mio::net::{TcpListener, UdpSocket};
-use mio::{Events, Interest, Poll, Token};
 use servient_base::ConnectionId;
 use servient_outside::What;
+use servient_system::{Ready, Refusal, System};
 use std::alloc::Global;
-use std::io::{self, ErrorKind};
-use std::net::{Ipv4Addr, Net, SocketAddr};
-use std::rt::Clock;
-use std::time::Duration;
 
-// The token of the socket for datagrams; the listener's is its place among the turns, and a connection's its number.
-const DATAGRAMS: usize = 65;
+// The address of any host, 0.0.0.0, in its mapped form, and any port.
+const ANY: Endpoint = Endpoint {
+    host: 0xffff_0000_0000,
+    port: 0,
+};
 
-// The number of events of the system that are taken at once.
-const REPORTS: usize = 128;
+// No number is free (EADDRNOTAVAIL).
+const NO_NUMBER: i32 = 99;
 
 // The number of turns that are taken before the system is asked again, so that one that always has something hides no
 // other.
@@ -39,16 +36,22 @@ const DATAGRAMS_IN_A_ROW: u32 = 8;
 
 const MOST_DATAGRAM_BYTES: usize = 2048;
 
+/// The sockets that are bound to a place.
+#[derive(Clone, Copy, Debug, PartialEq, Eq)]
+enum Bound {
+    Nothing,
+    /// The socket for datagrams alone.
+    Datagrams,
+    /// The listener, and the socket for datagrams.
+    Listener,
+}
+
 /// All sockets.
 #[derive(Drop)]
 pub struct Sockets {
     alloc: Global,
-    poll: Poll,
-    // Nothing is registered there: it waits for time alone.
-    timer: Poll,
-    events: Events,
-    listener: Option<TcpListener>,
-    udp: Option<UdpSocket>,
+    ready: Ready,
+    bound: Bound,
     numbers: Numbers,
     turns: Turns,
     // The number of turns that are left until the system is asked again.
@@ -63,15 +66,14 @@ pub struct Sockets {
 
 impl Sockets {
     /// No sockets yet.
-    pub fn new<R: Net>(rt: &R, alloc: Global) -> io::Result<Sockets> {
+    pub fn new<S: System>(system: &mut S, alloc: Global) -> Result<Sockets, Refusal> {
+        let numbers = Numbers::new(alloc)?;
+        system.prepare(alloc)?;
         Ok(Sockets {
             alloc,
-            numbers: Numbers::new(alloc)?,
-            events: Events::with_capacity(alloc, REPORTS)?,
-            poll: Poll::new(rt)?,
-            timer: Poll::new(rt)?,
-            listener: None,
-            udp: None,
+            numbers,
+            ready: Ready::new(),
+            bound: Bound::Nothing,
             turns: Turns::new(),
             turns_left: 0,
             asked: 0,
@@ -81,54 +83,69 @@ impl Sockets {
     }
 
     /// Listens for connections and for datagrams. A socket for datagrams that was bound before is given up.
-    pub fn listen<R: Net>(&mut self, rt: &R, http: SocketAddr, coap: SocketAddr) -> io::Result<()> {
-        let mut listener = TcpListener::bind(rt, http)?;
-        self.poll
-            .registry()
-            .register(&mut listener, Token(LISTENER), Interest::READABLE)?;
-        let udp = self.bound(rt, coap)?;
-        self.listener = Some(listener);
-        self.udp = Some(udp);
-        Ok(())
+    pub fn listen<S: System>(
+        &mut self,
+        system: &mut S,
+        http: Endpoint,
+        coap: Endpoint,
+    ) -> Result<(), Refusal> {
+        system.listen(http)?;
+        match system.bind(coap) {
+            Ok(()) => {
+                self.bound = Bound::Listener;
+                Ok(())
+            }
+            Err(refusal) => {
+                system.give_up(LISTENER as u32);
+                Err(refusal)
+            }
+        }
     }
 
     pub fn is_listening(&self) -> bool {
-        self.listener.is_some()
+        self.bound == Bound::Listener
     }
 
     /// Binds a socket for datagrams where there is none.
-    pub fn bind_any<R: Net>(&mut self, rt: &R) -> io::Result<()> {
-        if self.udp.is_none() {
-            let any = SocketAddr::from((Ipv4Addr::UNSPECIFIED, 0));
-            let udp = self.bound(rt, any)?;
-            self.udp = Some(udp);
+    pub fn bind_any<S: System>(&mut self, system: &mut S) -> Result<(), Refusal> {
+        if self.bound == Bound::Nothing {
+            system.bind(ANY)?;
+            self.bound = Bound::Datagrams;
         }
         Ok(())
     }
 
-    fn bound<R: Net>(&self, rt: &R, address: SocketAddr) -> io::Result<UdpSocket> {
-        let mut udp = UdpSocket::bind(rt, address)?;
-        self.poll
-            .registry()
-            .register(&mut udp, Token(DATAGRAMS), Interest::READABLE)?;
-        Ok(udp)
-    }
-
     /// Connects to an address, and answers the number of the connection.
-    pub fn dial<R: Net + Clock>(&mut self, rt: &R, address: SocketAddr) -> io::Result<ConnectionId>
+    pub fn dial<S: System>(
+        &mut self,
+        system: &mut S,
+        address: Endpoint,
+    ) -> Result<ConnectionId, Refusal>
         ensures { IfOk result (λ c. c < 64) }
     {
         let Some(c) = self.numbers.free() else {
-            return Err(io::Error::from(ErrorKind::AddrNotAvailable));
+            return Err(Refusal::Failed(NO_NUMBER));
         };
-        let stream = connect(rt, self.alloc, address)?;
-        let stream = set_up(stream, self.poll.registry(), c)?;
-        self.numbers.open(c, Connection::new(self.alloc, stream));
+        connect(system, c, address)?;
+        self.numbers.open(c, Connection::new(self.alloc));
         Ok(c)
     }
 
+    /// Closes all sockets at once. What is kept for them is lost.
+    pub fn give_up<S: System>(&mut self, system: &mut S) {
+        for number in 0..DATAGRAMS + 1 {
+            system.give_up(number as u32);
+        }
+    }
+
     /// Takes turns until one has something, or none may have.
-    pub fn take(&mut self, buffer: &mut [u8], moment: u64, faults: &mut u64) -> Option<What>
+    pub fn take<S: System>(
+        &mut self,
+        system: &mut S,
+        buffer: &mut [u8],
+        moment: u64,
+        faults: &mut u64,
+    ) -> Option<What>
         requires { length buffer.old ≡ 4096 }
         ensures what { IfSome result MayCome }
         ensures number { Comes self.old.numbers result self.new.numbers }
@@ -139,7 +156,7 @@ impl Sockets {
                 return None;
             }
             self.turns_left = self.turns_left.saturating_sub(1);
-            match self.turn(buffer, moment, faults) {
+            match self.turn(system, buffer, moment, faults) {
                 Some(what) => return Some(what),
                 None => {}
             }
@@ -152,7 +169,13 @@ impl Sockets {
     }
 
     /// A turn: of datagrams as long as they wait, but for a turn of another in between.
-    fn turn(&mut self, buffer: &mut [u8], moment: u64, faults: &mut u64) -> Option<What>
+    fn turn<S: System>(
+        &mut self,
+        system: &mut S,
+        buffer: &mut [u8],
+        moment: u64,
+        faults: &mut u64,
+    ) -> Option<What>
         requires { length buffer.old ≡ 4096 }
         ensures what { IfSome result MayCome }
         ensures number { Gives self.old.numbers result self.new.numbers }
@@ -160,23 +183,23 @@ impl Sockets {
     {
         if self.datagrams_wait && self.datagrams_left > 0 {
             self.datagrams_left = self.datagrams_left.saturating_sub(1);
-            return self.receive(buffer, faults);
+            return self.receive(system, buffer, faults);
         }
         self.datagrams_left = DATAGRAMS_IN_A_ROW;
         match self.turns.next() {
             None => None,
             Some(place) => {
                 if place == LISTENER {
-                    self.accept(faults)
+                    self.accept(system, faults)
                 } else {
-                    self.read(place as u32, buffer, moment)
+                    self.read(system, place as u32, buffer, moment)
                 }
             }
         }
     }
 
     /// Takes the next connection, if a number is free.
-    fn accept(&mut self, faults: &mut u64) -> Option<What>
+    fn accept<S: System>(&mut self, system: &mut S, faults: &mut u64) -> Option<What>
         ensures what { IfSome result MayCome }
         ensures number { Gives self.old.numbers result self.new.numbers }
         ensures faults { faults.old ≤ faults.new }
@@ -184,18 +207,18 @@ impl Sockets {
         let Some(c) = self.numbers.free() else {
             return None;
         };
-        let Some(listener) = &self.listener else {
+        if self.bound != Bound::Listener {
             return None;
-        };
-        match accept(listener, self.poll.registry(), c, faults) {
+        }
+        match accept(system, c, faults) {
             Accepted::Nothing => None,
             Accepted::More => {
                 self.turns.add(LISTENER);
                 None
             }
-            Accepted::Stream(stream) => {
+            Accepted::Connected => {
                 self.turns.add(LISTENER);
-                self.numbers.open(c, Connection::new(self.alloc, stream));
+                self.numbers.open(c, Connection::new(self.alloc));
                 Some(What::Opened(c))
             }
         }
@@ -203,25 +226,31 @@ impl Sockets {
 
     /// Takes the next datagram. The buffer has more room than a datagram may have, since the system cuts what doesn't
     /// fit; one that is longer is dropped.
-    fn receive(&mut self, buffer: &mut [u8], faults: &mut u64) -> Option<What>
+    fn receive<S: System>(
+        &mut self,
+        system: &mut S,
+        buffer: &mut [u8],
+        faults: &mut u64,
+    ) -> Option<What>
         requires { length buffer.old ≡ 4096 }
         ensures what { IfSome result MayCome }
         ensures number { Gives self.old.numbers result self.new.numbers }
         ensures faults { faults.old ≤ faults.new }
     {
-        let Some(udp) = &self.udp else {
+        if self.bound == Bound::Nothing {
+            self.datagrams_wait = false;
             return None;
-        };
-        match udp.recv_from(buffer) {
-            Ok((count, from)) => {
-                if count > MOST_DATAGRAM_BYTES {
+        }
+        match system.receive(buffer) {
+            Ok(arrived) => {
+                if arrived.count > MOST_DATAGRAM_BYTES {
                     return None;
                 }
-                Some(What::Datagram(endpoint_of(from), count))
+                Some(What::Datagram(arrived.from, arrived.count))
             }
-            Err(error) => {
+            Err(refusal) => {
                 self.datagrams_wait = false;
-                if error.kind() != ErrorKind::WouldBlock {
+                if refusal != Refusal::NotNow {
                     *faults = faults.saturating_add(1);
                 }
                 None
@@ -230,13 +259,19 @@ impl Sockets {
     }
 
     /// A turn of a connection. Where its number is free then, a peer that waits at the listener may have it.
-    fn read(&mut self, c: ConnectionId, buffer: &mut [u8], moment: u64) -> Option<What>
+    fn read<S: System>(
+        &mut self,
+        system: &mut S,
+        c: ConnectionId,
+        buffer: &mut [u8],
+        moment: u64,
+    ) -> Option<What>
         requires bounds { c < 64 }
         requires room { length buffer.old ≡ 4096 }
         ensures what { IfSome result MayCome }
         ensures number { Gives self.old.numbers result self.new.numbers }
     {
-        match self.numbers.turn(c, buffer, moment) {
+        match self.numbers.turn(system, c, buffer, moment) {
             Took::Bytes(count) => {
                 self.turns.add(c as usize);
                 Some(What::Bytes(c, count))
@@ -258,21 +293,21 @@ impl Sockets {
     }
 
     /// Sends on a connection, if it is open. One that can't send any more is given up, and has a turn to say so.
-    pub fn send(&mut self, c: ConnectionId, head: &[u8], body: &[u8])
+    pub fn send<S: System>(&mut self, system: &mut S, c: ConnectionId, head: &[u8], body: &[u8])
         ensures { c < 64 → ChangesAt SendsOn c self.old.numbers self.new.numbers }
     {
-        if c < CONNECTIONS as u32 && self.numbers.send(c, head, body) {
+        if c < CONNECTIONS as u32 && self.numbers.send(system, c, head, body) {
             self.turns.add(c as usize);
         }
     }
 
     /// Closes a connection. It has a turn then, since what its peer sent may wait; where its number is free, the
     /// listener has one.
-    pub fn close(&mut self, c: ConnectionId, moment: u64)
+    pub fn close<S: System>(&mut self, system: &mut S, c: ConnectionId, moment: u64)
         ensures { c < 64 → ChangesAt (λ before after. IsSilent after) c self.old.numbers self.new.numbers }
     {
         if c < CONNECTIONS as u32 {
-            let place = if self.numbers.close(c, moment) {
+            let place = if self.numbers.close(system, c, moment) {
                 LISTENER
             } else {
                 c as usize
@@ -282,69 +317,66 @@ impl Sockets {
     }
 
     /// Sends a datagram, or loses it.
-    pub fn datagram(&self, to: Endpoint, bytes: &[u8]) {
-        if let (Some(udp), Some(address)) = (&self.udp, address_of(to)) {
-            let _ = udp.send_to(bytes, address);
+    pub fn datagram<S: System>(&self, system: &mut S, to: Endpoint, bytes: &[u8]) {
+        if self.bound != Bound::Nothing {
+            let _lost = system.send_to(to, bytes);
         }
     }
 
     /// Asks the system which sockets are ready. Where none waits for a turn, it waits for at most `time` milliseconds.
-    pub fn ask(&mut self, moment: u64, time: u64) -> io::Result<()>
+    pub fn ask<S: System>(&mut self, system: &mut S, moment: u64, time: u64) -> Result<(), Refusal>
         ensures { self.new.numbers ≡ self.old.numbers }
     {
         self.turns_left = TURNS;
         self.asked = moment;
         let time = if self.is_waiting() { 0 } else { time };
-        self.poll
-            .poll(&mut self.events, Some(Duration::from_millis(time)))?;
-        note(&self.events, &mut self.turns, &mut self.datagrams_wait);
+        system.poll(time, &mut self.ready)?;
+        note(&self.ready, &mut self.turns, &mut self.datagrams_wait);
         Ok(())
     }
 
     /// Asks the system without waiting, where a millisecond or more has passed since it was asked, so that a datagram
     /// doesn't wait until all connections had their turns.
-    pub fn look(&mut self, moment: u64) -> io::Result<()>
+    pub fn look<S: System>(&mut self, system: &mut S, moment: u64) -> Result<(), Refusal>
         ensures { self.new.numbers ≡ self.old.numbers }
     {
         if self.asked < moment {
-            self.ask(moment, 0)
+            self.ask(system, moment, 0)
         } else {
             Ok(())
         }
     }
 
     /// Lets a millisecond pass, whichever socket is ready.
-    pub fn pause(&mut self) -> io::Result<()>
+    pub fn pause<S: System>(&mut self, system: &mut S) -> Result<(), Refusal>
         ensures { self.new.numbers ≡ self.old.numbers }
     {
-        self.timer
-            .poll(&mut self.events, Some(Duration::from_millis(1)))
+        system.pause(1)
     }
 
     /// Writes once what is kept for each connection. Whether something is still kept.
-    pub fn flush(&mut self, moment: u64) -> bool {
-        self.numbers.flush(moment)
+    pub fn flush<S: System>(&mut self, system: &mut S, moment: u64) -> bool {
+        self.numbers.flush(system, moment)
     }
 
     /// Ends the connections that were closed and are over, and asks again for what failed before, since the system
     /// reports it once.
-    pub fn tick(&mut self, moment: u64)
+    pub fn tick<S: System>(&mut self, system: &mut S, moment: u64)
         ensures { Settles self.old.numbers self.new.numbers }
     {
-        self.numbers.end_those_over(moment);
+        self.numbers.end_those_over(system, moment);
         self.turns.add(LISTENER);
         self.datagrams_wait = true;
     }
 }
 
 /// A socket that is reported as ready waits for a turn.
-fn note(events: &Events, turns: &mut Turns, datagrams_wait: &mut bool) {
-    for event in events.iter() {
-        let Token(token) = event.token();
-        if token == DATAGRAMS {
+fn note(ready: &Ready, turns: &mut Turns, datagrams_wait: &mut bool) {
+    for number in ready.as_slice().iter() {
+        if *number as usize == DATAGRAMS {
             *datagrams_wait = true;
         } else {
-            turns.add(token);
+            turns.add(*number as usize);
         }
     }
 }

@@ -3,39 +3,47 @@
 
 ghost use Rattle.std.specs.Prelude.{◌≡◌, ◌<◌, IfOk};
 
-use crate::addresses::{endpoint_of, resolve};
 use crate::mio_net::MioNet;
 use crate::sockets::Sockets;
 use crate::timing::Timing;
 use coap_msg::Endpoint;
 use servient_base::ConnectionId;
 use servient_outside::Place;
+use servient_system::{Refusal, System};
 use std::alloc::Global;
-use std::io::{self, ErrorKind};
-use std::net;
-use std::rt::Clock;
+
+// It listens already (EADDRINUSE).
+const LISTENS_ALREADY: Refusal = Refusal::Failed(98);
 
 /// The sockets, made where there are none.
-fn made<R: net::Net>(rt: &R, alloc: Global, sockets: Option<Sockets>) -> io::Result<Sockets> {
+fn made<S: System>(
+    system: &mut S,
+    alloc: Global,
+    sockets: Option<Sockets>,
+) -> Result<Sockets, Refusal> {
     match sockets {
         Some(sockets) => Ok(sockets),
-        None => Sockets::new(rt, alloc),
+        None => Sockets::new(system, alloc),
     }
 }
 
-impl<R: net::Net + Clock + Drop> MioNet<R> {
+impl<S: System + Drop> MioNet<S> {
     /// Binds the sockets of a place, and starts the times of tick and traffic.
-    pub(crate) fn start_listening(&mut self, alloc: Global, place: &Place) -> io::Result<()>
+    pub(crate) fn start_listening(&mut self, alloc: Global, place: &Place) -> Result<(), Refusal>
         ensures { self.new.faults ≡ self.old.faults }
     {
         self.read_clock()?;
         if self.is_listening() {
-            return Err(io::Error::from(ErrorKind::AlreadyExists));
+            return Err(LISTENS_ALREADY);
         }
-        let http = resolve(&self.rt, place.http_host.as_str(), place.http_port)?;
-        let coap = resolve(&self.rt, place.coap_host.as_str(), place.coap_port)?;
-        let mut sockets = made(&self.rt, alloc, self.sockets.take())?;
-        let bound = sockets.listen(&self.rt, http, coap);
+        let http = self
+            .system
+            .resolve(place.http_host.as_str(), place.http_port)?;
+        let coap = self
+            .system
+            .resolve(place.coap_host.as_str(), place.coap_port)?;
+        let mut sockets = made(&mut self.system, alloc, self.sockets.take())?;
+        let bound = sockets.listen(&mut self.system, http, coap);
         // Put back before the fault is handed on, so that the sockets aren't lost.
         self.sockets = Some(sockets);
         bound?;
@@ -76,14 +84,14 @@ impl<R: net::Net + Clock + Drop> MioNet<R> {
         alloc: Global,
         host: &str,
         port: u16,
-    ) -> io::Result<ConnectionId>
+    ) -> Result<ConnectionId, Refusal>
         ensures number { IfOk result (λ c. c < 64) }
         ensures faults { self.new.faults ≡ self.old.faults }
     {
         self.read_clock()?;
-        let address = resolve(&self.rt, host, port)?;
-        let mut sockets = made(&self.rt, alloc, self.sockets.take())?;
-        let dialled = sockets.dial(&self.rt, address);
+        let address = self.system.resolve(host, port)?;
+        let mut sockets = made(&mut self.system, alloc, self.sockets.take())?;
+        let dialled = sockets.dial(&mut self.system, address);
         self.sockets = Some(sockets);
         let c = dialled?;
         self.start_ticks();
@@ -91,17 +99,22 @@ impl<R: net::Net + Clock + Drop> MioNet<R> {
     }
 
     /// The endpoint of a host, once a socket for datagrams is bound.
-    pub(crate) fn look_up(&mut self, alloc: Global, host: &str, port: u16) -> io::Result<Endpoint>
+    pub(crate) fn look_up(
+        &mut self,
+        alloc: Global,
+        host: &str,
+        port: u16,
+    ) -> Result<Endpoint, Refusal>
         ensures { self.new.faults ≡ self.old.faults }
     {
         self.read_clock()?;
-        let address = resolve(&self.rt, host, port)?;
-        let mut sockets = made(&self.rt, alloc, self.sockets.take())?;
-        let bound = sockets.bind_any(&self.rt);
+        let endpoint = self.system.resolve(host, port)?;
+        let mut sockets = made(&mut self.system, alloc, self.sockets.take())?;
+        let bound = sockets.bind_any(&mut self.system);
         self.sockets = Some(sockets);
         bound?;
         self.start_ticks();
-        Ok(endpoint_of(address))
+        Ok(endpoint)
     }
 
     /// Starts the times where they haven't begun; without listening there is none without traffic.

@@ -10,6 +10,9 @@ pub const CONNECTIONS: usize = 64;
 /// The place of the listener; a connection's is its number.
 pub const LISTENER: usize = 64;
 
+/// The number of the socket for datagrams, which has no place.
+pub const DATAGRAMS: usize = 65;
+
 const PLACES: usize = 65;
 
 /// The result of a turn of a connection.

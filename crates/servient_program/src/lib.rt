@@ -12,7 +12,7 @@ ghost use Rattle.servient_cli.specs.Command.{Ends};
 
 use servient_base::NoMemory;
 use servient_cli::servient_main;
-use servient_edge::{Files, FilesReal, MioNet, Net, Out, OutReal, Put};
+use servient_edge::{Files, FilesReal, MioNet, Net, Out, OutReal, Put, SystemReal};
 use std::alloc::{AllocError, Global};
 use std::io::ErrorKind;
 use std::process::ExitCode;
@@ -34,7 +34,7 @@ fn run_words(rt: &HostRuntime) -> Result<u8, NoMemory> {
     let alloc = rt.alloc();
     let words = process_words(rt)?;
     let mut files = FilesReal::new(rt.clone()?);
-    let mut net = MioNet::new(rt.clone()?);
+    let mut net = MioNet::new(SystemReal::new(rt.clone()?));
     let mut list: Vec<Box<dyn Handler>> = Vec::new(alloc);
     for slot in 0..SHIPPED_SLOTS {
         list.push(Box::new(alloc, shipped_in(alloc, slot))?)?;

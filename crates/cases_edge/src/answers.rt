@@ -3,7 +3,7 @@
 //! `aborted`, `memory`, or the error's number in errno.h.
 
 use cases_notation::{bytes_of, endpoint_of, number};
-use servient_system::{Asked, Datagram, Ready, Refusal};
+use servient_system::{Asked, Ready, ReceivedDatagram, Refusal};
 use std::alloc::{AllocError, Global};
 use wot_json::{Bytes, Text};
 
@@ -85,7 +85,7 @@ fn datagram_of(alloc: Global, words: &str) -> Result<Asked, AllocError> {
     }
     let (from, bytes) = words.split_once(' ').unwrap_or((words, "-"));
     let bytes = Bytes::from_vec(bytes_of(alloc, bytes)?);
-    Ok(Asked::Received(Ok(Datagram {
+    Ok(Asked::Received(Ok(ReceivedDatagram {
         from: endpoint_of(from),
         bytes,
     })))

@@ -1,4 +1,4 @@
-//! Calls of handlers and their answers, in the words of docs/PROFILE.md ("Scripts and the print").
+//! Calls of handlers and their answers, in the words of docs/REFERENCE.md ("Scripts and the print").
 
 use cases_notation::{number, put as put_bytes};
 use std::alloc::{AllocError, Global};

@@ -3,7 +3,7 @@
 use crate::network::put_endpoint;
 use cases_notation::put_runs;
 use coap_msg::Endpoint;
-use servient_system::{Asked, Datagram, Ready, Refusal};
+use servient_system::{Asked, Ready, ReceivedDatagram, Refusal};
 use std::alloc::AllocError;
 use std::fmt::Write;
 use wot_json::Bytes;
@@ -107,7 +107,10 @@ fn put_wrote(
 }
 
 /// Writes a datagram that was received.
-fn put_received(text: &mut String, answer: &Result<Datagram, Refusal>) -> Result<(), AllocError> {
+fn put_received(
+    text: &mut String,
+    answer: &Result<ReceivedDatagram, Refusal>,
+) -> Result<(), AllocError> {
     text.push_str("received")?;
     match answer {
         Ok(datagram) => {

@@ -1,5 +1,5 @@
 -- The plan: an object that says which Things a servient exposes, where, and with which handlers. Its format is the
--- product's own; docs/PROFILE.md retells it. It is a table of rows, each a value or the pointer to its member, and the
+-- product's own; docs/REFERENCE.md retells it. It is a table of rows, each a value or the pointer to its member, and the
 -- first row without a value is the fault: so a wrong entry of a list is a fault of the list, and one pass reads all.
 use Rattle.std.specs.Prelude.{◌≡◌, ◌≤◌, ℕ, pos, ◌==◌, ◌&&◌, ◌||◌, not, nat_le, nat_lt, Bool, true, false, List, [], ◌∷◌, ◌++◌, length, drop, map, codes, Option, Some, None, is_some, IfSome, unwrap_or, option_map, option_and_then, Result, Ok, Err, if◌then◌else◌}
 use Rattle.std.specs.List.{filter, list_all, list_any, starts_with}

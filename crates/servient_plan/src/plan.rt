@@ -23,7 +23,7 @@ use tm_parts::{Bindings, Choices};
 use wot_forms::{Bases, Frame};
 use wot_json::{NoMemory, Text, Tree};
 
-/// A plan (docs/PROFILE.md, "The plan").
+/// A plan (docs/REFERENCE.md, "The plan").
 #[derive(Debug, Drop)]
 pub struct Plan {
     /// The segment and the `id` of the root Thing, the beginnings of its URLs, and the `instance` of its version: just
@@ -141,7 +141,7 @@ impl UnknownMembers {
 /// The cause for which a tree is no plan.
 #[derive(Debug, Drop, Error)]
 pub enum PlanFault {
-    /// The pointer to the first member that isn't as a plan has it, in the order of the table in docs/PROFILE.md; the
+    /// The pointer to the first member that isn't as a plan has it, in the order of the table in docs/REFERENCE.md; the
     /// empty one where the tree is no object.
     #[error("the plan is not as it must be at {0:?}")]
     At(Text),

@@ -20,7 +20,7 @@ use std::{env, io};
 use thing_handler::{Handler, Handlers, Rack, SHIPPED_SLOTS, shipped_in};
 use wot_json::Text;
 
-/// Does the command of the words after the program's name, and gives the exit status. docs/PROFILE.md has the table of
+/// Does the command of the words after the program's name, and gives the exit status. docs/REFERENCE.md has the table of
 /// these.
 pub fn run(rt: &HostRuntime) -> ExitCode {
     match run_words(rt) {

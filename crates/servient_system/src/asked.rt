@@ -6,7 +6,7 @@ use wot_json::{Bytes, Text};
 
 /// A datagram, and the endpoint that it came from.
 #[derive(Debug, Drop)]
-pub struct Datagram {
+pub struct ReceivedDatagram {
     pub from: Endpoint,
     pub bytes: Bytes,
 }
@@ -47,7 +47,7 @@ pub enum Asked {
     /// A socket was given up.
     GivenUp(u32),
     /// A datagram was received. Of one that is longer than the buffer the rest is lost.
-    Received(Result<Datagram, Refusal>),
+    Received(Result<ReceivedDatagram, Refusal>),
     /// A datagram was sent.
     SentTo(Endpoint, Bytes, Result<(), Refusal>),
 }

@@ -3,7 +3,7 @@
 ghost use Rattle.std.specs.Prelude.{◌≡◌, ◌≤◌, ◌++◌, IfOk, length};
 ghost use Rattle.servient_system.specs.System.{bytes_read, datagram_received};
 
-use crate::{Arrived, Asked, Datagram, Refusal};
+use crate::{Arrived, Asked, ReceivedDatagram, Refusal};
 use servient_base::NoMemory;
 use std::alloc::Global;
 use wot_json::Bytes;
@@ -76,14 +76,14 @@ pub fn copy_received(
     alloc: Global,
     answer: Result<Arrived, Refusal>,
     buffer: &[u8],
-) -> Result<Result<Datagram, Refusal>, NoMemory>
+) -> Result<Result<ReceivedDatagram, Refusal>, NoMemory>
     requires { IfOk answer (λ arrived. arrived.count ≤ length buffer.now) }
     ensures { IfOk result (λ received. received ≡ datagram_received answer buffer.now) }
 {
     match answer {
         Ok(arrived) => {
             let bytes = Bytes::copy_of(alloc, &buffer[..arrived.count])?;
-            Ok(Ok(Datagram {
+            Ok(Ok(ReceivedDatagram {
                 from: arrived.from,
                 bytes,
             }))

@@ -26,7 +26,7 @@ mod refusal;
 mod system;
 mod system_memory;
 
-pub use asked::{Asked, Call, Datagram};
+pub use asked::{Asked, Call, ReceivedDatagram};
 pub use ready::{MOST_READY, Ready};
 pub use refusal::Refusal;
 pub use system::{Arrived, System};

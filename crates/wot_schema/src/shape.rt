@@ -29,7 +29,7 @@ pub(crate) enum Shape {
     ListOfTexts,
 }
 
-/// The table (docs/PROFILE.md has it too), in the order in which faults count. It is one const, because the proof then
+/// The table (docs/REFERENCE.md has it too), in the order in which faults count. It is one const, because the proof then
 /// compares it with that of the definitions as a whole.
 const TABLE: [(&str, Shape); 19] = [
     ("pattern", Shape::Nothing),

@@ -13,7 +13,7 @@ use crate::shape::check_table;
 use std::alloc::Global;
 use wot_json::{Members, Text, Tree};
 
-/// The first fault of a schema, if it has one: those of the table in docs/PROFILE.md come in its order, and then those
+/// The first fault of a schema, if it has one: those of the table in docs/REFERENCE.md come in its order, and then those
 /// of the schemas below, of `oneOf`, of `items` and of `properties`. Each has the JSON Pointer (RFC 6901) of its place.
 ///
 /// It takes memory for the pointer alone, and so none where there is no fault. The time is in proportion to the size

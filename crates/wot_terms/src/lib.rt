@@ -17,7 +17,7 @@
 //! ```
 //!
 //! `check` names the first fault of a description by the table `faults_of` of `specs/Faults.antt`, which
-//! docs/PROFILE.md retells. `Description::of` lists the affordances of a valid one with their schemas compiled.
+//! docs/REFERENCE.md retells. `Description::of` lists the affordances of a valid one with their schemas compiled.
 #![tactic(auto)]
 
 mod affordance;

@@ -19,7 +19,7 @@ use wot_json::{Members, Text, Tree};
 /// The number of rows of the table.
 const ROWS: u8 = 18;
 
-/// The description meets all conditions of the table in docs/PROFILE.md, or the first fault: of the rows in their
+/// The description meets all conditions of the table in docs/REFERENCE.md, or the first fault: of the rows in their
 /// order, and in a row of the places in preorder, an object in the byte order of its names. A valid description takes
 /// no memory; else a pointer is written for the fault that is answered.
 pub fn check(alloc: Global, tree: &Tree) -> Result<(), CheckFault>

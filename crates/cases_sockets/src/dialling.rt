@@ -9,7 +9,12 @@ use std::test::Fail;
 const PATIENCE: u32 = 20;
 
 /// The answer to dialling. It has no clause, so that its callers are proved without those of `dial`, as with `event`.
-fn dialled(rt: &HostRuntime, net: &mut MioNet<SystemReal<HostRuntime>>, host: &str, port: u16) -> Dialled {
+fn dialled(
+    rt: &HostRuntime,
+    net: &mut MioNet<SystemReal<HostRuntime>>,
+    host: &str,
+    port: u16,
+) -> Dialled {
     net.dial(rt.alloc(), host, port)
 }
 
@@ -121,7 +126,11 @@ fn a_peer_that_never_accepts_fails_after_ten_seconds(rt: HostRuntime) -> Result<
 }
 
 /// Looks a host up, and dials: its second has begun, and there is no end without listening.
-fn find_and_dial(rt: &HostRuntime, net: &mut MioNet<SystemReal<HostRuntime>>, port: u16) -> Result<(), Fail> {
+fn find_and_dial(
+    rt: &HostRuntime,
+    net: &mut MioNet<SystemReal<HostRuntime>>,
+    port: u16,
+) -> Result<(), Fail> {
     let mut buffer = [0; 4096];
     let Found::At(_) = net.find(rt.alloc(), "localhost", port) else {
         return Err("the host isn't found")?;
@@ -135,7 +144,10 @@ fn find_and_dial(rt: &HostRuntime, net: &mut MioNet<SystemReal<HostRuntime>>, po
     Ok(())
 }
 
-fn listen_after_dialling(rt: &HostRuntime, net: &mut MioNet<SystemReal<HostRuntime>>) -> Result<(), Fail> {
+fn listen_after_dialling(
+    rt: &HostRuntime,
+    net: &mut MioNet<SystemReal<HostRuntime>>,
+) -> Result<(), Fail> {
     let listener = TcpListener::bind(rt, "127.0.0.1:0")?;
     let port = listener.local_addr()?.port();
     find_and_dial(rt, net, port)?;

@@ -84,7 +84,10 @@ pub fn event(net: &mut MioNet<SystemReal<HostRuntime>>, buffer: &mut [u8; 4096])
 }
 
 /// The next event but ticks.
-pub fn next(net: &mut MioNet<SystemReal<HostRuntime>>, buffer: &mut [u8; 4096]) -> Result<What, Fail> {
+pub fn next(
+    net: &mut MioNet<SystemReal<HostRuntime>>,
+    buffer: &mut [u8; 4096],
+) -> Result<What, Fail> {
     for _ in 0..PATIENCE {
         match event(net, buffer) {
             Some(What::Tick) => {}

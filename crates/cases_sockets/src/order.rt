@@ -50,7 +50,10 @@ fn answer_all(net: &mut MioNet<SystemReal<HostRuntime>>, count: u32) -> Result<(
     Ok(())
 }
 
-fn send_and_answer(rt: &HostRuntime, net: &mut MioNet<SystemReal<HostRuntime>>) -> Result<(), Fail> {
+fn send_and_answer(
+    rt: &HostRuntime,
+    net: &mut MioNet<SystemReal<HostRuntime>>,
+) -> Result<(), Fail> {
     let ports = listen_on_free_ports(rt, net, 0)?;
     let mut peers = connected(rt, net, ports, 64)?;
     send_numbers(&mut peers)?;
@@ -91,7 +94,11 @@ fn place_after(bytes: &[u8], place: u64) -> Result<u64, Fail> {
 }
 
 /// Sends all pieces on a connection.
-fn send_pieces(rt: &HostRuntime, net: &mut MioNet<SystemReal<HostRuntime>>, c: u32) -> Result<(), Fail> {
+fn send_pieces(
+    rt: &HostRuntime,
+    net: &mut MioNet<SystemReal<HostRuntime>>,
+    c: u32,
+) -> Result<(), Fail> {
     for number in 0..PIECES {
         let piece = vec![in rt.alloc(); number; 65_536]?;
         net.send(c, b"", piece.as_slice());
@@ -150,7 +157,10 @@ fn read_after_pause(
     Ok(())
 }
 
-fn connect_and_pause(rt: &HostRuntime, net: &mut MioNet<SystemReal<HostRuntime>>) -> Result<(), Fail> {
+fn connect_and_pause(
+    rt: &HostRuntime,
+    net: &mut MioNet<SystemReal<HostRuntime>>,
+) -> Result<(), Fail> {
     let ports = listen_on_free_ports(rt, net, 0)?;
     let mut peer = connected_as(rt, net, ports, 0)?;
     let mut other = connected_as(rt, net, ports, 1)?;
@@ -186,7 +196,10 @@ fn connect_again(
     Ok(())
 }
 
-fn connect_and_close(rt: &HostRuntime, net: &mut MioNet<SystemReal<HostRuntime>>) -> Result<(), Fail> {
+fn connect_and_close(
+    rt: &HostRuntime,
+    net: &mut MioNet<SystemReal<HostRuntime>>,
+) -> Result<(), Fail> {
     let ports = listen_on_free_ports(rt, net, 0)?;
     let mut peer = connected_as(rt, net, ports, 0)?;
     net.send(0, b"reply", b"");
@@ -246,7 +259,10 @@ fn read_to_the_end(
     Ok(())
 }
 
-fn connect_and_finish(rt: &HostRuntime, net: &mut MioNet<SystemReal<HostRuntime>>) -> Result<(), Fail> {
+fn connect_and_finish(
+    rt: &HostRuntime,
+    net: &mut MioNet<SystemReal<HostRuntime>>,
+) -> Result<(), Fail> {
     let ports = listen_on_free_ports(rt, net, 0)?;
     let mut peer = connected_as(rt, net, ports, 0)?;
     let _other = connected_as(rt, net, ports, 1)?;

@@ -118,7 +118,10 @@ fn write_to_all(peers: &mut Vec<TcpStream>) -> Result<(), Fail> {
 }
 
 /// The number of connections that were heard while a datagram came before each event.
-fn heard_beside(net: &mut MioNet<SystemReal<HostRuntime>>, socket: &UdpSocket) -> Result<u32, Fail> {
+fn heard_beside(
+    net: &mut MioNet<SystemReal<HostRuntime>>,
+    socket: &UdpSocket,
+) -> Result<u32, Fail> {
     let mut buffer = [0; 4096];
     let mut heard: u32 = 0;
     for _ in 0..EVENTS {

@@ -1,0 +1,138 @@
+-- Each form that is generated for an affordance leads there.
+use Rattle.std.proofs.Common.{◌≡◌, ◌≢◌, ℕ, Bool, true, false, List, [], ◌∷◌, ◌++◌, map, Option, Some, None, inl, inr, refl, sym, ap, ap₂, ◌∙◌, append_assoc}
+use Rattle.std.specs.Prelude.{codes, if◌then◌else◌}
+use Rattle.std.specs.List.{AllByRecursion}
+use Rattle.percent_encoding.specs.Percent.{percent_decode}
+use Rattle.servient_base.specs.Encoding.{encoded}
+use Rattle.wot_json.specs.Tree.{Json}
+use Rattle.wot_terms.specs.declared.kind.Kind.{Kind}
+use Rattle.wot_terms.specs.declared.kind.Kind.TheVariants as kind
+use Rattle.wot_terms.specs.declared.op.Op.{Op}
+use Rattle.wot_terms.specs.declared.op.Op.TheVariants as op
+use Rattle.wot_terms.specs.Faults.{holder}
+use Rattle.wot_forms.specs.declared.bases.Bases.{Bases}
+use Rattle.wot_forms.specs.Forms.{form_of, default_ops}
+use Rattle.wot_forms.specs.Segments.{is_plain_segment}
+use Rattle.wot_forms.specs.Generated.{form, plain_form, holder_path, affordance_path}
+use Rattle.thing_site.specs.Site.{Placed, ExposedThing, Site, affordance_named}
+use Rattle.description_laws.specs.Encoding.{AreBytes}
+use Rattle.description_laws.specs.Leading.{Binding, Http, Coap, base_by, HasPath, Leads, FormLeads, asked_by}
+use Rattle.description_laws.proofs.EncodedBytes.{IsInside, encoded_is_inside, undone}
+use Rattle.description_laws.proofs.Targets.{AreParts}
+use Rattle.description_laws.proofs.Paths.{plain_bytes, has_path}
+use Rattle.description_laws.proofs.Places.{AreThere, read_taken, write_taken, observe_taken, invoke_taken, subscribe_taken, event_taken}
+
+-- ---- the paths
+
+-- the words of paths are read as they stand
+properties_read : percent_decode (codes "properties") ≡ codes "properties"
+unfolding percent_decode
+properties_read = refl
+
+actions_read : percent_decode (codes "actions") ≡ codes "actions"
+unfolding percent_decode
+actions_read = refl
+
+events_read : percent_decode (codes "events") ≡ codes "events"
+unfolding percent_decode
+events_read = refl
+
+observe_read : percent_decode (codes "observe") ≡ codes "observe"
+unfolding percent_decode
+observe_read = refl
+
+subscribe_read : percent_decode (codes "subscribe") ≡ codes "subscribe"
+unfolding percent_decode
+subscribe_read = refl
+
+holder_read : (k : Kind) → percent_decode (holder k) ≡ holder k
+holder_read kind.Property = properties_read
+holder_read kind.Action = actions_read
+holder_read kind.Event = events_read
+
+holder_inside : (k : Kind) → AllByRecursion IsInside (holder k)
+holder_inside kind.Property = encoded_is_inside (codes "properties")
+holder_inside kind.Action = encoded_is_inside (codes "actions")
+holder_inside kind.Event = encoded_is_inside (codes "events")
+
+-- a word behind the path of an affordance
+further : (url word : List ℕ) → url ++ (47 ∷ word) ≡ url ++ codes "/" ++ word
+further url word = sym (append_assoc url (codes "/") word)
+
+module _ (segment : List ℕ) (plain : is_plain_segment segment ≡ true) where
+
+  segment_read : percent_decode (encoded segment) ≡ segment
+  segment_read = undone segment (plain_bytes segment plain)
+
+  -- the path of the affordances of a kind
+  pub holder_path_said : (b : Binding) (base : List ℕ) (k : Kind) → HasPath base b (holder_path base segment k) (segment ∷ holder k ∷ [])
+  holder_path_said b base k =
+      has_path b base (encoded segment) (holder k ∷ []) (holder_path base segment k) (segment ∷ holder k ∷ [])
+      (encoded_is_inside segment, (holder_inside k, tt)) (λ same. absurd cc) refl
+      (ap₂ (λ (s h : List ℕ). s ∷ h ∷ []) segment_read (holder_read k))
+
+  module _ (name : List ℕ) (are : AreBytes name) where
+
+    -- that of an affordance
+    pub path_said_by : (b : Binding) (base : List ℕ) (k : Kind) → HasPath base b (affordance_path base segment k name) (segment ∷ holder k ∷ name ∷ [])
+    path_said_by b base k =
+        has_path b base (encoded segment) (holder k ∷ encoded name ∷ []) (affordance_path base segment k name) (segment ∷ holder k ∷ name ∷ [])
+        (encoded_is_inside segment, (holder_inside k, (encoded_is_inside name, tt))) (λ same. absurd cc) refl
+        (ap₂ (λ (s : List ℕ) (more : List (List ℕ)). s ∷ more) segment_read (ap₂ (λ (h n : List ℕ). h ∷ n ∷ []) (holder_read k) (undone name are)))
+
+    -- and with one word more
+    longer_path : (b : Binding) (base : List ℕ) (k : Kind) (word : List ℕ) → AllByRecursion IsInside word → percent_decode word ≡ word
+        → HasPath base b (affordance_path base segment k name ++ (47 ∷ word)) (segment ∷ holder k ∷ name ∷ word ∷ [])
+    longer_path b base k word inside read =
+        has_path b base (encoded segment) (holder k ∷ encoded name ∷ word ∷ []) (affordance_path base segment k name ++ (47 ∷ word)) (segment ∷ holder k ∷ name ∷ word ∷ [])
+        (encoded_is_inside segment, (holder_inside k, (encoded_is_inside name, (inside, tt)))) (λ same. absurd cc) (further (affordance_path base segment k name) word)
+        (ap₂ (λ (s : List ℕ) (more : List (List ℕ)). s ∷ more) segment_read
+        (ap₂ (λ (h : List ℕ) (more : List (List ℕ)). h ∷ more) (holder_read k) (ap₂ (λ (n w : List ℕ). n ∷ w ∷ []) (undone name are) read)))
+
+    pub observe_path_said : (b : Binding) (base : List ℕ) → HasPath base b (affordance_path base segment kind.Property name ++ codes "/observe") (segment ∷ codes "properties" ∷ name ∷ codes "observe" ∷ [])
+    observe_path_said b base = longer_path b base kind.Property (codes "observe") (encoded_is_inside (codes "observe")) observe_read
+
+    pub subscribe_path_said : (b : Binding) (base : List ℕ) → HasPath base b (affordance_path base segment kind.Event name ++ codes "/subscribe") (segment ∷ codes "events" ∷ name ∷ codes "subscribe" ∷ [])
+    subscribe_path_said b base = longer_path b base kind.Event (codes "subscribe") (encoded_is_inside (codes "subscribe")) subscribe_read
+
+-- ---- the forms
+
+-- each of these forms, as a description's reader has them
+abbrev pub EachLeads : Bases → Site → Placed → List Op → List Json → Type 0
+EachLeads bases site p defaults forms = AllByRecursion (λ v. FormLeads bases site p (form_of defaults v)) forms
+
+both_lead : (bases : Bases) (site : Site) (p : Placed) (defaults : List Op) (xs ys : List Json) → EachLeads bases site p defaults xs → EachLeads bases site p defaults ys → EachLeads bases site p defaults (xs ++ ys)
+both_lead bases site p defaults [] ys one other = other
+both_lead bases site p defaults (x ∷ xs) ys one other = (one.0, both_lead bases site p defaults xs ys one.1 other)
+
+module _ (bases : Bases) (site : Site) (segment : List ℕ) (plain : is_plain_segment segment ≡ true) (thing : ExposedThing) (there : AreThere site segment thing)
+    (name : List ℕ) (are : AreBytes name) (p : Placed) (defaults : List Op) where
+
+  module _ (named : affordance_named kind.Property name thing.affordances ≡ Some p) where
+
+    abbrev property_path : Binding → List ℕ
+    property_path b = affordance_path (base_by b bases) segment kind.Property name
+
+    -- reading and writing
+    pub plain_leads : (b : Binding) (ro wo : Bool) → p.affordance.read_only ≡ ro → p.affordance.write_only ≡ wo
+        → EachLeads bases site p defaults (plain_form (property_path b) (default_ops kind.Property ro wo))
+    plain_leads Http false false ro wo =
+        (inl (record { path = segment ∷ codes "properties" ∷ name ∷ []; has = path_said_by segment plain name are Http bases.http kind.Property;
+        each = (read_taken site segment thing there name p named wo, (write_taken site segment thing there name p named ro, tt)) }), tt)
+    plain_leads Http true false ro wo =
+        (inl (record { path = segment ∷ codes "properties" ∷ name ∷ []; has = path_said_by segment plain name are Http bases.http kind.Property;
+        each = (read_taken site segment thing there name p named wo, tt) }), tt)
+    plain_leads Http false true ro wo =
+        (inl (record { path = segment ∷ codes "properties" ∷ name ∷ []; has = path_said_by segment plain name are Http bases.http kind.Property;
+        each = (write_taken site segment thing there name p named ro, tt) }), tt)
+    plain_leads Http true true ro wo = tt
+    plain_leads Coap false false ro wo =
+        (inr (record { path = segment ∷ codes "properties" ∷ name ∷ []; has = path_said_by segment plain name are Coap bases.coap kind.Property;
+        each = (read_taken site segment thing there name p named wo, (write_taken site segment thing there name p named ro, tt)) }), tt)
+    plain_leads Coap true false ro wo =
+        (inr (record { path = segment ∷ codes "properties" ∷ name ∷ []; has = path_said_by segment plain name are Coap bases.coap kind.Property;
+        each = (read_taken site segment thing there name p named wo, tt) }), tt)
+    plain_leads Coap false true ro wo =
+        (inr (record { path = segment ∷ codes "properties" ∷ name ∷ []; has = path_said_by segment plain name are Coap bases.coap kind.Property;
+        each = (write_taken site segment thing there name p named ro, tt) }), tt)
+    plain_leads Coap true true ro wo = tt

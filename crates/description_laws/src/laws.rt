@@ -1,0 +1,20 @@
+//! Laws on what descriptions say.
+
+ghost use Rattle.description_laws.specs.Encoding.{EncodingIsUndone};
+ghost use Rattle.description_laws.specs.Leading.{FormsLeadToTheirAffordances};
+
+/// A segment of any bytes, percent-encoded as in the forms that a servient generates, is read back as it was.
+#[tactic(auto, using(crate::proofs::EncodedBytes::undone))]
+pub fn encoding_is_undone()
+    ensures { EncodingIsUndone }
+{}
+
+/// Each form of a description that is derived leads to its own affordance, over HTTP and over CoAP: the path of its
+/// `href`, as the binding reads paths, is that affordance's, and the verb of each of its operations is taken there and is
+/// the act of that operation. So are the forms of the Thing as a whole and the URL of the description itself. Left out are
+/// the operations that end an observation over HTTP, which are no request, and those that observe a write-only property
+/// over CoAP, which are answered 4.05.
+#[tactic(auto, using(crate::proofs::Leading::lead))]
+pub fn forms_lead_to_their_affordances()
+    ensures { FormsLeadToTheirAffordances }
+{}

@@ -1,6 +1,6 @@
 -- Each form that is generated for an affordance leads there.
-use Rattle.std.proofs.Common.{◌≡◌, ◌≢◌, ℕ, Bool, true, false, List, [], ◌∷◌, ◌++◌, map, Option, Some, None, inl, inr, refl, sym, ap, ap₂, ◌∙◌, append_assoc}
-use Rattle.std.specs.Prelude.{codes, if◌then◌else◌}
+use Rattle.std.proofs.Common.{◌≡◌, ◌≢◌, ℕ, Bool, true, false, List, [], ◌∷◌, ◌++◌, map, Option, Some, None, inl, inr, refl, sym, ap, ap₂, ◌∙◌, append_assoc, append-nil}
+use Rattle.std.specs.Prelude.{codes, IfSome, if◌then◌else◌}
 use Rattle.std.specs.List.{AllByRecursion}
 use Rattle.percent_encoding.specs.Percent.{percent_decode}
 use Rattle.servient_base.specs.Encoding.{encoded}
@@ -10,13 +10,18 @@ use Rattle.wot_terms.specs.declared.kind.Kind.TheVariants as kind
 use Rattle.wot_terms.specs.declared.op.Op.{Op}
 use Rattle.wot_terms.specs.declared.op.Op.TheVariants as op
 use Rattle.wot_terms.specs.Faults.{holder}
+use Rattle.wot_terms.specs.Affordances.{flag_of}
 use Rattle.wot_forms.specs.declared.bases.Bases.{Bases}
 use Rattle.wot_forms.specs.Forms.{form_of, default_ops}
 use Rattle.wot_forms.specs.Segments.{is_plain_segment}
-use Rattle.wot_forms.specs.Generated.{form, plain_form, holder_path, affordance_path}
+use Rattle.wot_forms.specs.Generated.{form, plain_form, holder_path, affordance_path, is_coap_segment, generated_forms}
+use Rattle.thing_ops.specs.declared.verb.Verb.{Verb}
+use Rattle.thing_ops.specs.declared.verb.Verb.TheVariants as verb
+use Rattle.thing_site.specs.declared.place.ThingAct.{ThingAct}
+use Rattle.thing_site.specs.declared.place.ThingAct.TheVariants as act
 use Rattle.thing_site.specs.Site.{Placed, ExposedThing, Site, affordance_named}
 use Rattle.description_laws.specs.Encoding.{AreBytes}
-use Rattle.description_laws.specs.Leading.{Binding, Http, Coap, base_by, HasPath, Leads, FormLeads, asked_by}
+use Rattle.description_laws.specs.Leading.{Binding, Http, Coap, base_by, HasPath, IsTaken, Leads, FormLeads, observed_by_coap}
 use Rattle.description_laws.proofs.EncodedBytes.{IsInside, encoded_is_inside, undone}
 use Rattle.description_laws.proofs.Targets.{AreParts}
 use Rattle.description_laws.proofs.Paths.{plain_bytes, has_path}
@@ -95,6 +100,10 @@ module _ (segment : List ℕ) (plain : is_plain_segment segment ≡ true) where
     pub subscribe_path_said : (b : Binding) (base : List ℕ) → HasPath base b (affordance_path base segment kind.Event name ++ codes "/subscribe") (segment ∷ codes "events" ∷ name ∷ codes "subscribe" ∷ [])
     subscribe_path_said b base = longer_path b base kind.Event (codes "subscribe") (encoded_is_inside (codes "subscribe")) subscribe_read
 
+-- nothing behind a path
+unchanged_path : {path : List (List ℕ)} (base url : List ℕ) → HasPath base Coap url path → HasPath base Coap (url ++ []) path
+unchanged_path base url has = record { target = has.target; behind = append-nil url ∙ has.behind; said = has.said }
+
 -- ---- the forms
 
 -- each of these forms, as a description's reader has them
@@ -136,3 +145,87 @@ module _ (bases : Bases) (site : Site) (segment : List ℕ) (plain : is_plain_se
         (inr (record { path = segment ∷ codes "properties" ∷ name ∷ []; has = path_said_by segment plain name are Coap bases.coap kind.Property;
         each = (write_taken site segment thing there name p named ro, tt) }), tt)
     plain_leads Coap true true ro wo = tt
+
+    -- observing
+    observe_leads_by_http : (obs : Bool) → p.affordance.observable ≡ obs
+        → EachLeads bases site p defaults (if obs then form (property_path Http ++ codes "/observe") (op.ObserveProperty ∷ op.UnobserveProperty ∷ []) (Some (codes "longpoll")) ∷ [] else [])
+    observe_leads_by_http false obs = tt
+    observe_leads_by_http true obs =
+        (inl (record { path = segment ∷ codes "properties" ∷ name ∷ codes "observe" ∷ []; has = observe_path_said segment plain name are Http bases.http;
+        each = (observe_taken site segment thing there name p named obs, (tt, tt)) }), tt)
+
+    observed_taken : IfSome (observed_by_coap p) (λ (asks : Verb × ThingAct). IsTaken site (segment ∷ codes "properties" ∷ name ∷ []) asks.0 asks.1)
+    observed_taken = by p.affordance.write_only refl
+      where
+        by : (wo : Bool) → p.affordance.write_only ≡ wo
+            → IfSome (if wo then None else Some (verb.Get, act.Reads p)) (λ (asks : Verb × ThingAct). IsTaken site (segment ∷ codes "properties" ∷ name ∷ []) asks.0 asks.1)
+        by true is = tt
+        by false is = read_taken site segment thing there name p named is
+
+    observe_leads_by_coap : (obs : Bool)
+        → EachLeads bases site p defaults (if obs then form (property_path Coap ++ []) (op.ObserveProperty ∷ op.UnobserveProperty ∷ []) (Some (codes "cov:observe")) ∷ [] else [])
+    observe_leads_by_coap false = tt
+    observe_leads_by_coap true =
+        (inr (record { path = segment ∷ codes "properties" ∷ name ∷ []; has = unchanged_path (base_by Coap bases) (property_path Coap) (path_said_by segment plain name are Coap bases.coap kind.Property);
+        each = (observed_taken, (observed_taken, tt)) }), tt)
+
+    pub property_leads : (ro wo obs : Bool) → p.affordance.read_only ≡ ro → p.affordance.write_only ≡ wo → p.affordance.observable ≡ obs
+        → EachLeads bases site p defaults (plain_form (property_path Http) (default_ops kind.Property ro wo)
+            ++ (if obs then form (property_path Http ++ codes "/observe") (op.ObserveProperty ∷ op.UnobserveProperty ∷ []) (Some (codes "longpoll")) ∷ [] else []))
+        × EachLeads bases site p defaults (plain_form (property_path Coap) (default_ops kind.Property ro wo)
+            ++ (if obs then form (property_path Coap ++ []) (op.ObserveProperty ∷ op.UnobserveProperty ∷ []) (Some (codes "cov:observe")) ∷ [] else []))
+    property_leads ro wo obs read write observe =
+        (both_lead bases site p defaults _ _ (plain_leads Http ro wo read write) (observe_leads_by_http obs observe),
+        both_lead bases site p defaults _ _ (plain_leads Coap ro wo read write) (observe_leads_by_coap obs))
+
+  module _ (named : affordance_named kind.Action name thing.affordances ≡ Some p) where
+
+    pub action_leads : EachLeads bases site p defaults (form (affordance_path bases.http segment kind.Action name) (op.InvokeAction ∷ []) None ∷ [])
+        × EachLeads bases site p defaults (form (affordance_path bases.coap segment kind.Action name) (op.InvokeAction ∷ []) None ∷ [])
+    action_leads =
+        ((inl (record { path = segment ∷ codes "actions" ∷ name ∷ []; has = path_said_by segment plain name are Http bases.http kind.Action;
+        each = (invoke_taken site segment thing there name p named, tt) }), tt),
+        (inr (record { path = segment ∷ codes "actions" ∷ name ∷ []; has = path_said_by segment plain name are Coap bases.coap kind.Action;
+        each = (invoke_taken site segment thing there name p named, tt) }), tt))
+
+  module _ (named : affordance_named kind.Event name thing.affordances ≡ Some p) where
+
+    pub event_leads : EachLeads bases site p defaults (form (affordance_path bases.http segment kind.Event name ++ codes "/subscribe") (op.SubscribeEvent ∷ op.UnsubscribeEvent ∷ []) (Some (codes "longpoll")) ∷ [])
+        × EachLeads bases site p defaults (form (affordance_path bases.coap segment kind.Event name ++ []) (op.SubscribeEvent ∷ op.UnsubscribeEvent ∷ []) (Some (codes "cov:observe")) ∷ [])
+    event_leads =
+        ((inl (record { path = segment ∷ codes "events" ∷ name ∷ codes "subscribe" ∷ []; has = subscribe_path_said segment plain name are Http bases.http;
+        each = (subscribe_taken site segment thing there name p named, (tt, tt)) }), tt),
+        (inr (record { path = segment ∷ codes "events" ∷ name ∷ [];
+        has = unchanged_path (base_by Coap bases) (affordance_path bases.coap segment kind.Event name) (path_said_by segment plain name are Coap bases.coap kind.Event);
+        each = (event_taken site segment thing there name p named, (event_taken site segment thing there name p named, tt)) }), tt))
+
+-- ---- all forms of an affordance
+
+-- the flags of an affordance are those of this value
+pub record IsOf (p : Placed) (v : Json) : Type 0 where
+  pub read_only : p.affordance.read_only ≡ flag_of (codes "readOnly") v
+  pub write_only : p.affordance.write_only ≡ flag_of (codes "writeOnly") v
+  pub observable : p.affordance.observable ≡ flag_of (codes "observable") v
+
+module _ (bases : Bases) (site : Site) (segment : List ℕ) (plain : is_plain_segment segment ≡ true) (thing : ExposedThing) (there : AreThere site segment thing)
+    (name : List ℕ) (are : AreBytes name) (p : Placed) (defaults : List Op) where
+
+  only_where : (b : Bool) (forms : List Json) → EachLeads bases site p defaults forms → EachLeads bases site p defaults (if b then forms else [])
+  only_where true forms all = all
+  only_where false forms all = tt
+
+  pub forms_lead : (k : Kind) (v : Json) → affordance_named k name thing.affordances ≡ Some p → IsOf p v → EachLeads bases site p defaults (generated_forms bases segment k name v)
+  forms_lead kind.Property v named of =
+      let both = property_leads bases site segment plain thing there name are p defaults named (flag_of (codes "readOnly") v) (flag_of (codes "writeOnly") v) (flag_of (codes "observable") v) of.read_only of.write_only of.observable in
+      both_lead bases site p defaults _ _ both.0 (only_where (is_coap_segment name) _ both.1)
+  forms_lead kind.Action v named of =
+      let both = action_leads bases site segment plain thing there name are p defaults named in
+      let by_coap : List Json = form (affordance_path bases.coap segment kind.Action name) (op.InvokeAction ∷ []) None ∷ [] in
+      both_lead bases site p defaults (form (affordance_path bases.http segment kind.Action name) (op.InvokeAction ∷ []) None ∷ []) (if is_coap_segment name then by_coap else []) both.0
+      (only_where (is_coap_segment name) by_coap both.1)
+  forms_lead kind.Event v named of =
+      let both = event_leads bases site segment plain thing there name are p defaults named in
+      let by_coap : List Json = form (affordance_path bases.coap segment kind.Event name ++ []) (op.SubscribeEvent ∷ op.UnsubscribeEvent ∷ []) (Some (codes "cov:observe")) ∷ [] in
+      both_lead bases site p defaults
+      (form (affordance_path bases.http segment kind.Event name ++ codes "/subscribe") (op.SubscribeEvent ∷ op.UnsubscribeEvent ∷ []) (Some (codes "longpoll")) ∷ [])
+      (if is_coap_segment name then by_coap else []) both.0 (only_where (is_coap_segment name) by_coap both.1)

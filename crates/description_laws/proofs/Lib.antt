@@ -5,4 +5,5 @@ mod Generation
 mod Places
 mod Paths
 mod Forms
+mod Things
 mod Leading

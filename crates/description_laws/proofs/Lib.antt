@@ -5,5 +5,8 @@ mod Generation
 mod Places
 mod Paths
 mod Forms
+mod AffordanceForms
+mod RootForms
+mod OneThing
 mod Things
 mod Leading

@@ -1,5 +1,5 @@
 -- The forms that are read of an affordance are those that were generated for it.
-use Rattle.std.proofs.Common.{◌≡◌, ℕ, List, [], ◌∷◌, map, false, Option, Some, None, refl, sym, ap, subst, ◌∙◌}
+use Rattle.std.proofs.Common.{◌≡◌, ℕ, List, [], ◌∷◌, map, false, Option, Some, refl, sym, ap, subst, ◌∙◌}
 use Rattle.std.specs.Prelude.{codes}
 use Rattle.std.specs.List.{AllByRecursion}
 use Rattle.std.specs.Option.{option_map_or}
@@ -37,7 +37,7 @@ is_of slots segment k name forms v = record {
 }
 
 -- its forms are those that were generated, or it is no affordance and has none
-all_mapped : {A B : Type 0} (P : B → Type 0) (f : A → B) (xs : List A) → AllByRecursion (λ x. P (f x)) xs → AllByRecursion P (map f xs)
+pub all_mapped : {A B : Type 0} (P : B → Type 0) (f : A → B) (xs : List A) → AllByRecursion (λ x. P (f x)) xs → AllByRecursion P (map f xs)
 all_mapped P f [] all = tt
 all_mapped P f (x ∷ xs) all = (all.0, all_mapped P f xs all.1)
 
@@ -54,4 +54,3 @@ forms_after P defaults forms (boolean b) all = tt
 forms_after P defaults forms (integer z) all = tt
 forms_after P defaults forms (string s) all = tt
 forms_after P defaults forms (array es) all = tt
-

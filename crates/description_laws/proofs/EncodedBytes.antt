@@ -1,13 +1,13 @@
 -- A byte that is encoded is read back, and no byte of the encoding ends a segment or a path.
-use Rattle.std.proofs.Common.{◌≡◌, ◌≢◌, ◌<◌, ◌≤◌, ◌/◌, ◌%◌, ℕ, Bool, true, false, cond, List, [], ◌∷◌, ◌++◌, refl, ap, ◌∙◌, arith}
+use Rattle.std.proofs.Common.{◌≡◌, ◌≢◌, ◌<◌, ◌≤◌, ◌/◌, ◌%◌, ℕ, Bool, true, false, List, [], ◌∷◌, ◌++◌, refl, ap, ◌∙◌, arith}
 use Rattle.std.specs.Prelude.{◌==◌, nat_lt, if◌then◌else◌}
-use Rattle.std.specs.List.{AllByRecursion, flat_map}
+use Rattle.std.specs.List.{AllByRecursion}
 use Rattle.std.specs.Fmt.{digit_glyph}
 use Rattle.std.proofs.lemmas.Bool.Decides.{nat_tests}
-use Rattle.percent_encoding.specs.Percent.{percent_encode_byte, percent_decode, is_escape}
+use Rattle.percent_encoding.specs.Percent.{percent_encode_byte, percent_decode}
 use Rattle.percent_encoding.proofs.PercentLemmas.{percent_decode-nil, percent_decode-percent_encode_byte}
 use Rattle.servient_base.specs.Encoding.{is_unreserved, encoded_byte, encoded}
-use Rattle.description_laws.specs.Encoding.{AreBytes, EncodingIsUndone}
+use Rattle.description_laws.specs.Encoding.{EncodingIsUndone}
 
 -- a byte that stands for itself in a segment
 pub record IsPlain (b : ℕ) : Type 0 where

@@ -1,5 +1,5 @@
 -- Each form that is generated for an affordance leads there.
-use Rattle.std.proofs.Common.{◌≡◌, ◌≢◌, ℕ, Bool, true, false, List, [], ◌∷◌, ◌++◌, map, Option, Some, None, inl, inr, refl, sym, ap, ap₂, ◌∙◌, append_assoc, append-nil}
+use Rattle.std.proofs.Common.{◌≡◌, ℕ, Bool, true, false, List, [], ◌∷◌, ◌++◌, Some, None, inl, inr, refl, sym, ap₂, ◌∙◌, append_assoc, append-nil}
 use Rattle.std.specs.Prelude.{codes, IfSome, if◌then◌else◌}
 use Rattle.std.specs.List.{AllByRecursion}
 use Rattle.percent_encoding.specs.Percent.{percent_decode}
@@ -21,9 +21,8 @@ use Rattle.thing_site.specs.declared.place.ThingAct.{ThingAct}
 use Rattle.thing_site.specs.declared.place.ThingAct.TheVariants as act
 use Rattle.thing_site.specs.Site.{Placed, ExposedThing, Site, affordance_named}
 use Rattle.description_laws.specs.Encoding.{AreBytes}
-use Rattle.description_laws.specs.Leading.{Binding, Http, Coap, base_by, HasPath, IsTaken, Leads, FormLeads, observed_by_coap}
+use Rattle.description_laws.specs.Leading.{Binding, Http, Coap, base_by, HasPath, IsTaken, FormLeads, observed_by_coap}
 use Rattle.description_laws.proofs.EncodedBytes.{IsInside, encoded_is_inside, undone}
-use Rattle.description_laws.proofs.Targets.{AreParts}
 use Rattle.description_laws.proofs.Paths.{plain_bytes, has_path}
 use Rattle.description_laws.proofs.Places.{AreThere, read_taken, write_taken, observe_taken, invoke_taken, subscribe_taken, event_taken}
 
@@ -65,7 +64,6 @@ further : (url word : List ℕ) → url ++ (47 ∷ word) ≡ url ++ codes "/" ++
 further url word = sym (append_assoc url (codes "/") word)
 
 module _ (segment : List ℕ) (plain : is_plain_segment segment ≡ true) where
-
   segment_read : percent_decode (encoded segment) ≡ segment
   segment_read = undone segment (plain_bytes segment plain)
 
@@ -77,7 +75,6 @@ module _ (segment : List ℕ) (plain : is_plain_segment segment ≡ true) where
       (ap₂ (λ (s h : List ℕ). s ∷ h ∷ []) segment_read (holder_read k))
 
   module _ (name : List ℕ) (are : AreBytes name) where
-
     -- that of an affordance
     pub path_said_by : (b : Binding) (base : List ℕ) (k : Kind) → HasPath base b (affordance_path base segment k name) (segment ∷ holder k ∷ name ∷ [])
     path_said_by b base k =
@@ -116,43 +113,76 @@ both_lead bases site p defaults (x ∷ xs) ys one other = (one.0, both_lead base
 
 module _ (bases : Bases) (site : Site) (segment : List ℕ) (plain : is_plain_segment segment ≡ true) (thing : ExposedThing) (there : AreThere site segment thing)
     (name : List ℕ) (are : AreBytes name) (p : Placed) (defaults : List Op) where
-
   module _ (named : affordance_named kind.Property name thing.affordances ≡ Some p) where
-
     abbrev property_path : Binding → List ℕ
     property_path b = affordance_path (base_by b bases) segment kind.Property name
 
     -- reading and writing
     pub plain_leads : (b : Binding) (ro wo : Bool) → p.affordance.read_only ≡ ro → p.affordance.write_only ≡ wo
         → EachLeads bases site p defaults (plain_form (property_path b) (default_ops kind.Property ro wo))
-    plain_leads Http false false ro wo =
-        (inl (record { path = segment ∷ codes "properties" ∷ name ∷ []; has = path_said_by segment plain name are Http bases.http kind.Property;
-        each = (read_taken site segment thing there name p named wo, (write_taken site segment thing there name p named ro, tt)) }), tt)
-    plain_leads Http true false ro wo =
-        (inl (record { path = segment ∷ codes "properties" ∷ name ∷ []; has = path_said_by segment plain name are Http bases.http kind.Property;
-        each = (read_taken site segment thing there name p named wo, tt) }), tt)
-    plain_leads Http false true ro wo =
-        (inl (record { path = segment ∷ codes "properties" ∷ name ∷ []; has = path_said_by segment plain name are Http bases.http kind.Property;
-        each = (write_taken site segment thing there name p named ro, tt) }), tt)
+    plain_leads Http false false ro wo = (
+      inl (record {
+        path = segment ∷ codes "properties" ∷ name ∷ [];
+        has = path_said_by segment plain name are Http bases.http kind.Property;
+        each = (read_taken site segment thing there name p named wo, (write_taken site segment thing there name p named ro, tt));
+      }),
+      tt,
+    )
+    plain_leads Http true false ro wo = (
+      inl (record {
+        path = segment ∷ codes "properties" ∷ name ∷ [];
+        has = path_said_by segment plain name are Http bases.http kind.Property;
+        each = (read_taken site segment thing there name p named wo, tt);
+      }),
+      tt,
+    )
+    plain_leads Http false true ro wo = (
+      inl (record {
+        path = segment ∷ codes "properties" ∷ name ∷ [];
+        has = path_said_by segment plain name are Http bases.http kind.Property;
+        each = (write_taken site segment thing there name p named ro, tt);
+      }),
+      tt,
+    )
     plain_leads Http true true ro wo = tt
-    plain_leads Coap false false ro wo =
-        (inr (record { path = segment ∷ codes "properties" ∷ name ∷ []; has = path_said_by segment plain name are Coap bases.coap kind.Property;
-        each = (read_taken site segment thing there name p named wo, (write_taken site segment thing there name p named ro, tt)) }), tt)
-    plain_leads Coap true false ro wo =
-        (inr (record { path = segment ∷ codes "properties" ∷ name ∷ []; has = path_said_by segment plain name are Coap bases.coap kind.Property;
-        each = (read_taken site segment thing there name p named wo, tt) }), tt)
-    plain_leads Coap false true ro wo =
-        (inr (record { path = segment ∷ codes "properties" ∷ name ∷ []; has = path_said_by segment plain name are Coap bases.coap kind.Property;
-        each = (write_taken site segment thing there name p named ro, tt) }), tt)
+    plain_leads Coap false false ro wo = (
+      inr (record {
+        path = segment ∷ codes "properties" ∷ name ∷ [];
+        has = path_said_by segment plain name are Coap bases.coap kind.Property;
+        each = (read_taken site segment thing there name p named wo, (write_taken site segment thing there name p named ro, tt));
+      }),
+      tt,
+    )
+    plain_leads Coap true false ro wo = (
+      inr (record {
+        path = segment ∷ codes "properties" ∷ name ∷ [];
+        has = path_said_by segment plain name are Coap bases.coap kind.Property;
+        each = (read_taken site segment thing there name p named wo, tt);
+      }),
+      tt,
+    )
+    plain_leads Coap false true ro wo = (
+      inr (record {
+        path = segment ∷ codes "properties" ∷ name ∷ [];
+        has = path_said_by segment plain name are Coap bases.coap kind.Property;
+        each = (write_taken site segment thing there name p named ro, tt);
+      }),
+      tt,
+    )
     plain_leads Coap true true ro wo = tt
 
     -- observing
     observe_leads_by_http : (obs : Bool) → p.affordance.observable ≡ obs
         → EachLeads bases site p defaults (if obs then form (property_path Http ++ codes "/observe") (op.ObserveProperty ∷ op.UnobserveProperty ∷ []) (Some (codes "longpoll")) ∷ [] else [])
     observe_leads_by_http false obs = tt
-    observe_leads_by_http true obs =
-        (inl (record { path = segment ∷ codes "properties" ∷ name ∷ codes "observe" ∷ []; has = observe_path_said segment plain name are Http bases.http;
-        each = (observe_taken site segment thing there name p named obs, (tt, tt)) }), tt)
+    observe_leads_by_http true obs = (
+      inl (record {
+        path = segment ∷ codes "properties" ∷ name ∷ codes "observe" ∷ [];
+        has = observe_path_said segment plain name are Http bases.http;
+        each = (observe_taken site segment thing there name p named obs, (tt, tt));
+      }),
+      tt,
+    )
 
     observed_taken : IfSome (observed_by_coap p) (λ (asks : Verb × ThingAct). IsTaken site (segment ∷ codes "properties" ∷ name ∷ []) asks.0 asks.1)
     observed_taken = by p.affordance.write_only refl
@@ -165,39 +195,68 @@ module _ (bases : Bases) (site : Site) (segment : List ℕ) (plain : is_plain_se
     observe_leads_by_coap : (obs : Bool)
         → EachLeads bases site p defaults (if obs then form (property_path Coap ++ []) (op.ObserveProperty ∷ op.UnobserveProperty ∷ []) (Some (codes "cov:observe")) ∷ [] else [])
     observe_leads_by_coap false = tt
-    observe_leads_by_coap true =
-        (inr (record { path = segment ∷ codes "properties" ∷ name ∷ []; has = unchanged_path (base_by Coap bases) (property_path Coap) (path_said_by segment plain name are Coap bases.coap kind.Property);
-        each = (observed_taken, (observed_taken, tt)) }), tt)
+    observe_leads_by_coap true = (
+      inr (record {
+        path = segment ∷ codes "properties" ∷ name ∷ [];
+        has = unchanged_path (base_by Coap bases) (property_path Coap) (path_said_by segment plain name are Coap bases.coap kind.Property);
+        each = (observed_taken, (observed_taken, tt));
+      }),
+      tt,
+    )
 
     pub property_leads : (ro wo obs : Bool) → p.affordance.read_only ≡ ro → p.affordance.write_only ≡ wo → p.affordance.observable ≡ obs
         → EachLeads bases site p defaults (plain_form (property_path Http) (default_ops kind.Property ro wo)
-            ++ (if obs then form (property_path Http ++ codes "/observe") (op.ObserveProperty ∷ op.UnobserveProperty ∷ []) (Some (codes "longpoll")) ∷ [] else []))
+        ++ (if obs then form (property_path Http ++ codes "/observe") (op.ObserveProperty ∷ op.UnobserveProperty ∷ []) (Some (codes "longpoll")) ∷ [] else []))
         × EachLeads bases site p defaults (plain_form (property_path Coap) (default_ops kind.Property ro wo)
-            ++ (if obs then form (property_path Coap ++ []) (op.ObserveProperty ∷ op.UnobserveProperty ∷ []) (Some (codes "cov:observe")) ∷ [] else []))
-    property_leads ro wo obs read write observe =
-        (both_lead bases site p defaults _ _ (plain_leads Http ro wo read write) (observe_leads_by_http obs observe),
-        both_lead bases site p defaults _ _ (plain_leads Coap ro wo read write) (observe_leads_by_coap obs))
+        ++ (if obs then form (property_path Coap ++ []) (op.ObserveProperty ∷ op.UnobserveProperty ∷ []) (Some (codes "cov:observe")) ∷ [] else []))
+    property_leads ro wo obs read write observe = (
+      both_lead bases site p defaults _ _ (plain_leads Http ro wo read write) (observe_leads_by_http obs observe),
+      both_lead bases site p defaults _ _ (plain_leads Coap ro wo read write) (observe_leads_by_coap obs),
+    )
 
   module _ (named : affordance_named kind.Action name thing.affordances ≡ Some p) where
-
     pub action_leads : EachLeads bases site p defaults (form (affordance_path bases.http segment kind.Action name) (op.InvokeAction ∷ []) None ∷ [])
         × EachLeads bases site p defaults (form (affordance_path bases.coap segment kind.Action name) (op.InvokeAction ∷ []) None ∷ [])
-    action_leads =
-        ((inl (record { path = segment ∷ codes "actions" ∷ name ∷ []; has = path_said_by segment plain name are Http bases.http kind.Action;
-        each = (invoke_taken site segment thing there name p named, tt) }), tt),
-        (inr (record { path = segment ∷ codes "actions" ∷ name ∷ []; has = path_said_by segment plain name are Coap bases.coap kind.Action;
-        each = (invoke_taken site segment thing there name p named, tt) }), tt))
+    action_leads = (
+      (
+        inl (record {
+          path = segment ∷ codes "actions" ∷ name ∷ [];
+          has = path_said_by segment plain name are Http bases.http kind.Action;
+          each = (invoke_taken site segment thing there name p named, tt);
+        }),
+        tt,
+      ),
+      (
+        inr (record {
+          path = segment ∷ codes "actions" ∷ name ∷ [];
+          has = path_said_by segment plain name are Coap bases.coap kind.Action;
+          each = (invoke_taken site segment thing there name p named, tt);
+        }),
+        tt,
+      ),
+    )
 
   module _ (named : affordance_named kind.Event name thing.affordances ≡ Some p) where
-
     pub event_leads : EachLeads bases site p defaults (form (affordance_path bases.http segment kind.Event name ++ codes "/subscribe") (op.SubscribeEvent ∷ op.UnsubscribeEvent ∷ []) (Some (codes "longpoll")) ∷ [])
         × EachLeads bases site p defaults (form (affordance_path bases.coap segment kind.Event name ++ []) (op.SubscribeEvent ∷ op.UnsubscribeEvent ∷ []) (Some (codes "cov:observe")) ∷ [])
-    event_leads =
-        ((inl (record { path = segment ∷ codes "events" ∷ name ∷ codes "subscribe" ∷ []; has = subscribe_path_said segment plain name are Http bases.http;
-        each = (subscribe_taken site segment thing there name p named, (tt, tt)) }), tt),
-        (inr (record { path = segment ∷ codes "events" ∷ name ∷ [];
-        has = unchanged_path (base_by Coap bases) (affordance_path bases.coap segment kind.Event name) (path_said_by segment plain name are Coap bases.coap kind.Event);
-        each = (event_taken site segment thing there name p named, (event_taken site segment thing there name p named, tt)) }), tt))
+    event_leads = (
+      (
+        inl (record {
+          path = segment ∷ codes "events" ∷ name ∷ codes "subscribe" ∷ [];
+          has = subscribe_path_said segment plain name are Http bases.http;
+          each = (subscribe_taken site segment thing there name p named, (tt, tt));
+        }),
+        tt,
+      ),
+      (
+        inr (record {
+          path = segment ∷ codes "events" ∷ name ∷ [];
+          has = unchanged_path (base_by Coap bases) (affordance_path bases.coap segment kind.Event name) (path_said_by segment plain name are Coap bases.coap kind.Event);
+          each = (event_taken site segment thing there name p named, (event_taken site segment thing there name p named, tt));
+        }),
+        tt,
+      ),
+    )
 
 -- ---- all forms of an affordance
 
@@ -209,7 +268,6 @@ pub record IsOf (p : Placed) (v : Json) : Type 0 where
 
 module _ (bases : Bases) (site : Site) (segment : List ℕ) (plain : is_plain_segment segment ≡ true) (thing : ExposedThing) (there : AreThere site segment thing)
     (name : List ℕ) (are : AreBytes name) (p : Placed) (defaults : List Op) where
-
   only_where : (b : Bool) (forms : List Json) → EachLeads bases site p defaults forms → EachLeads bases site p defaults (if b then forms else [])
   only_where true forms all = all
   only_where false forms all = tt

@@ -1,10 +1,9 @@
 -- What a description has once its forms are generated.
-use Rattle.std.proofs.Common.{◌≡◌, ℕ, List, [], ◌∷◌, ◌++◌, map, Bool, true, false, Option, Some, None, refl, sym, ap, ◌∙◌}
+use Rattle.std.proofs.Common.{◌≡◌, ℕ, List, false, Option, Some, None, refl, ap, ◌∙◌}
 use Rattle.std.specs.Prelude.{codes}
 use Rattle.std.specs.Str.{bytes_eq}
 use Rattle.wot_json.specs.Tree.{Json, null, boolean, integer, string, array, object, Members, elements_of, members_of}
 use Rattle.wot_json.specs.Lookup.{member_named, member_list, value_under}
-use Rattle.wot_json.specs.Merge.{members_under}
 use Rattle.wot_json.proofs.EqualTrees.{listed_members_lem}
 use Rattle.wot_terms.specs.declared.kind.Kind.{Kind}
 use Rattle.wot_terms.specs.declared.kind.Kind.TheVariants as kind
@@ -81,7 +80,6 @@ abbrev pub held_after : Bases → List ℕ → Kind → Option Json → Option J
 held_after bases segment k o = held_with_forms bases segment k o o
 
 module _ (bases : Bases) (segment : List ℕ) (ms : Members) where
-
   abbrev with_actions : List Field
   with_actions = with_affordances bases segment kind.Action (value_under (holder kind.Action) ms) (member_list ms)
 

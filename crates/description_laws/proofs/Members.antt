@@ -1,10 +1,9 @@
 -- The members of an object with one member changed, and each member where it stands.
-use Rattle.std.proofs.Common.{◌≡◌, ℕ, List, [], ◌∷◌, Bool, true, false, Option, Some, None, refl, sym, ap, ◌∙◌}
-use Rattle.std.specs.Prelude.{⊤}
+use Rattle.std.proofs.Common.{◌≡◌, ℕ, List, [], ◌∷◌, false, Some, None, refl, sym, ap, ◌∙◌}
 use Rattle.std.specs.List.{AllByRecursion}
 use Rattle.std.specs.Str.{bytes_eq}
-use Rattle.wot_json.specs.Tree.{Json, null, Members, no_members, member, AreOrdered}
-use Rattle.wot_json.specs.Lookup.{member_named, member_list, value_under}
+use Rattle.wot_json.specs.Tree.{Json, AreOrdered}
+use Rattle.wot_json.specs.Lookup.{member_named}
 use Rattle.wot_json.specs.Cutting.{IsBeforeAll}
 use Rattle.wot_json.specs.Merge.{with_member, without_member}
 use Rattle.wot_json.proofs.MemberOrder.{less, equal, greater, compares, behind_other, before_others, rest_ordered}
@@ -68,10 +67,11 @@ behind_first first ms m other is = rw other is
 
 pub each_found : (ms : List Field) → AreOrdered ms → AllByRecursion (IsFound ms) ms
 each_found [] ordered = tt
-each_found (m ∷ ms) ordered =
-    (rw (itself m.0).1 refl,
-    each_of (λ (n : Field). (bytes_eq n.0 m.0 ≡ false) × IsFound ms n) (IsFound (m ∷ ms)) (λ n is. behind_first m ms n is.0 is.1) ms
-    (both_of (λ (n : Field). bytes_eq n.0 m.0 ≡ false) (IsFound ms) ms (differ ms (before_others m ms ordered)) (each_found ms (rest_ordered m ms ordered))))
+each_found (m ∷ ms) ordered = (
+  rw (itself m.0).1 refl,
+  each_of (λ (n : Field). (bytes_eq n.0 m.0 ≡ false) × IsFound ms n) (IsFound (m ∷ ms)) (λ n is. behind_first m ms n is.0 is.1) ms
+      (both_of (λ (n : Field). bytes_eq n.0 m.0 ≡ false) (IsFound ms) ms (differ ms (before_others m ms ordered)) (each_found ms (rest_ordered m ms ordered))),
+)
   where
     differ : (ns : List Field) → IsBeforeAll m.0 ns → AllByRecursion (λ (n : Field). bytes_eq n.0 m.0 ≡ false) ns
     differ [] before = tt

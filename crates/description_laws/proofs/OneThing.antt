@@ -4,24 +4,23 @@ use Rattle.std.specs.Prelude.{codes, cond, unwrap_or, option_map, option_and_the
 use Rattle.std.specs.List.{AllByRecursion}
 use Rattle.std.specs.Option.{option_map_or}
 use Rattle.std.specs.Str.{bytes_eq}
-use Rattle.std.proofs.lemmas.Option.{same_Some}
-use Rattle.wot_json.specs.Tree.{Json, null, boolean, integer, string, array, object, Members, no_members, member, elements_of, members_of, AreOrdered}
-use Rattle.wot_json.specs.Lookup.{member_named, member_list, value_under}
+use Rattle.wot_json.specs.Tree.{Json, null, boolean, integer, string, array, object, Members, no_members, member, AreOrdered}
+use Rattle.wot_json.specs.Lookup.{member_list, value_under}
 use Rattle.wot_json.specs.WellFormed.{IsWellFormed, MembersAreWellFormed}
 use Rattle.wot_json.proofs.EqualTrees.{listed_members_lem}
 use Rattle.wot_terms.specs.declared.kind.Kind.{Kind}
 use Rattle.wot_terms.specs.declared.kind.Kind.TheVariants as kind
 use Rattle.wot_terms.specs.Faults.{holder}
 use Rattle.wot_terms.specs.declared.affordance.Affordance.{Affordance}
-use Rattle.wot_terms.specs.Affordances.{part, flag_of, affordance_of, named_affordances, held_affordances, affordances_in, affordances_of}
+use Rattle.wot_terms.specs.Affordances.{part, flag_of, affordance_of, named_affordances, held_affordances}
 use Rattle.wot_forms.specs.declared.bases.Bases.{Bases}
 use Rattle.wot_forms.specs.declared.form.Form.{Form}
 use Rattle.wot_forms.specs.Segments.{is_plain_segment}
-use Rattle.wot_forms.specs.Forms.{default_ops, list_forms, forms_under, affordance_forms, forms_in}
+use Rattle.wot_forms.specs.Forms.{default_ops, affordance_forms}
 use Rattle.wot_forms.specs.Generated.{with_forms, each_with_forms, generated_forms, generated}
 use Rattle.thing_site.specs.Site.{Placed, ExposedThing, Site, Slots, placed, exposed, affordance_named}
 use Rattle.description_laws.specs.Encoding.{AreBytes}
-use Rattle.description_laws.specs.Leading.{FormLeads, forms_for}
+use Rattle.description_laws.specs.Leading.{FormLeads, AffordanceIsReached}
 use Rattle.description_laws.proofs.Members.{Field, IsFound, each_of, both_of, each_found}
 use Rattle.description_laws.proofs.Generation.{held_after, held_is}
 use Rattle.description_laws.proofs.Places.{AreThere, placed_all, by_member, past_others}
@@ -113,7 +112,6 @@ each_in_both P (x ∷ xs) ys one other = (one.0, each_in_both P xs ys one.1 othe
 -- ---- the Thing
 
 module _ (bases : Bases) (site : Site) (segment : List ℕ) (plain : is_plain_segment segment ≡ true) (slots : Slots) (ms : Members) where
-
   abbrev tree : Json
   tree = generated (object ms) bases segment
 
@@ -151,7 +149,6 @@ module _ (bases : Bases) (site : Site) (segment : List ℕ) (plain : is_plain_se
       ∙ by_member slots segment kind.Event name (those kind.Event) [] v refl is
 
   module _ (there : AreThere site segment thing) where
-
     -- one member
     member_leads : (k : Kind) (name : List ℕ) (v v0 : Json) → v ≡ with_forms (generated_forms bases segment k name v0) v0
         → affordance_named k name thing.affordances ≡ Some (placed slots segment (affordance_of k name v)) → AreBytes name
@@ -171,7 +168,7 @@ module _ (bases : Bases) (site : Site) (segment : List ℕ) (plain : is_plain_se
             (forms_lead bases site segment plain thing there name are p (default_ops k (flag_of (codes "readOnly") w) (flag_of (codes "writeOnly") w)) k v0 is (is_of slots segment k name (generated_forms bases segment k name v0) v0))
 
     abbrev Good : Placed → Type 0
-    Good p = AreBytes p.affordance.name → AllByRecursion (FormLeads bases site p) (forms_for thing p)
+    Good p = AffordanceIsReached bases site thing p
 
     one_good : (k : Kind) (m : Field) → IsFound (member_list (those k)) m → IsWithForms bases segment k m → Good (placed slots segment (affordance_of k m.0 m.1))
     one_good k m is made are =

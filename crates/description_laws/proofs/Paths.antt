@@ -1,17 +1,15 @@
 -- The paths of the URLs of a Thing.
-use Rattle.std.proofs.Common.{◌≡◌, ◌≢◌, ◌<◌, ◌≤◌, ℕ, Bool, true, false, List, [], ◌∷◌, ◌++◌, map, drop, Some, refl, sym, ap, ap₂, ◌∙◌, append_assoc, append-nil, arith, le-leb, le-ltb, inl, inr}
-use Rattle.std.specs.Prelude.{codes, ◌==◌, ◌||◌}
-use Rattle.std.specs.List.{AllByRecursion, list_all}
+use Rattle.std.proofs.Common.{◌≡◌, ◌≢◌, ◌<◌, ◌≤◌, ℕ, true, false, List, [], ◌∷◌, ◌++◌, map, Some, refl, sym, ap, ◌∙◌, append_assoc, append-nil, arith, le-leb, inl, inr}
+use Rattle.std.specs.Prelude.{codes}
+use Rattle.std.specs.List.{AllByRecursion}
 use Rattle.std.proofs.lemmas.Bool.{and_parts, cases_lt, lt-leb, ne_eqb}
 use Rattle.percent_encoding.specs.Percent.{percent_decode}
 use Rattle.percent_encoding.proofs.PercentLemmas.{percent_decode-nil}
-use Rattle.servient_base.specs.Encoding.{encoded}
-use Rattle.wot_forms.specs.Segments.{is_name_byte, is_segment_byte, is_plain_segment}
-use Rattle.http_wire.specs.Targets.{segments_of, segments_behind}
+use Rattle.wot_forms.specs.Segments.{is_segment_byte, is_plain_segment}
 use Rattle.description_laws.specs.Encoding.{AreBytes}
 use Rattle.description_laws.specs.Leading.{Binding, HasPath}
 use Rattle.description_laws.specs.Leading.{Http, Coap}
-use Rattle.description_laws.proofs.EncodedBytes.{IsPlain, IsInside, decode_plain, encoded_is_inside, undone}
+use Rattle.description_laws.proofs.EncodedBytes.{IsPlain, IsInside, decode_plain}
 use Rattle.description_laws.proofs.Targets.{slashed, AreParts, segments_read, target_read}
 
 -- ---- plain segments
@@ -47,7 +45,6 @@ small b is = elim (cases_lt b 128) [
 
 -- of the bytes of a plain segment each is one
 module _ (b : ℕ) (bytes : List ℕ) (plain : is_plain_segment (b ∷ bytes) ≡ true) where
-
   first_plain : is_segment_byte b ≡ true
   first_plain = (and_parts (is_segment_byte b) (is_plain_segment bytes) plain).0
 

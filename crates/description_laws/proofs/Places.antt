@@ -1,12 +1,10 @@
 -- Each Thing and each affordance is at its path.
-use Rattle.std.proofs.Common.{◌≡◌, ◌≢◌, ℕ, List, [], ◌∷◌, ◌++◌, map, Bool, true, false, cond, Option, Some, None, option_map, refl, sym, ap, ◌∙◌}
-use Rattle.std.specs.Prelude.{codes, ◌&&◌, option_and_then, slice_get, IfSome, if◌then◌else◌}
-use Rattle.std.specs.List.{AllByRecursion}
+use Rattle.std.proofs.Common.{◌≡◌, ◌≢◌, ℕ, List, [], ◌∷◌, ◌++◌, map, Bool, true, false, cond, Some, option_map, refl, sym, ap, ◌∙◌}
+use Rattle.std.specs.Prelude.{codes, ◌&&◌, option_and_then}
 use Rattle.std.specs.Str.{bytes_eq, is_utf8}
 use Rattle.std.proofs.lemmas.Slice.Eq.{bytes_eq-Decides}
 use Rattle.wot_json.specs.Tree.{Json, Members, no_members, member}
 use Rattle.wot_json.specs.Lookup.{value_under}
-use Rattle.wot_json.proofs.MergeLaws.{itself}
 use Rattle.wot_terms.specs.declared.kind.Kind.{Kind}
 use Rattle.wot_terms.specs.declared.kind.Kind.TheVariants as kind
 use Rattle.wot_terms.specs.Affordances.{affordance_of, named_affordances}
@@ -15,11 +13,10 @@ use Rattle.thing_ops.specs.declared.verb.Verb.TheVariants as verb
 use Rattle.thing_ops.specs.declared.routing.RouteKind.{RouteKind}
 use Rattle.thing_ops.specs.declared.routing.RouteKind.TheVariants as route
 use Rattle.thing_ops.specs.Routes.{route_of}
-use Rattle.thing_site.specs.declared.place.Resource.{Resource}
 use Rattle.thing_site.specs.declared.place.Resource.TheVariants as place
 use Rattle.thing_site.specs.declared.place.ThingAct.{ThingAct}
 use Rattle.thing_site.specs.declared.place.ThingAct.TheVariants as act
-use Rattle.thing_site.specs.Places.{thing_in, affordance_in, where_observable, place_at, act_at}
+use Rattle.thing_site.specs.Places.{affordance_in, where_observable, place_at, act_at}
 use Rattle.thing_site.specs.Site.{Placed, ExposedThing, Site, Slots, placed, thing_named, affordance_named, is_kind}
 use Rattle.description_laws.specs.Leading.{IsTaken}
 
@@ -76,7 +73,6 @@ affordance_there site segment middle more thing k name p there is =
 -- ---- what is taken there
 
 module _ (site : Site) (segment : List ℕ) (thing : ExposedThing) (there : AreThere site segment thing) where
-
   pub description_taken : IsTaken site (segment ∷ []) verb.Get (act.Describes thing)
   description_taken = record { place = place.Description thing; there = at; taken = taken }
     where
@@ -112,7 +108,6 @@ module _ (site : Site) (segment : List ℕ) (thing : ExposedThing) (there : AreT
   all_written = at_all verb.Put (act.WritesMany thing) refl
 
   module _ (name : List ℕ) (p : Placed) where
-
     -- a property
     pub property_taken : affordance_named kind.Property name thing.affordances ≡ Some p → (v : Verb) (a : ThingAct) → act_at route.Property (place.Property p) v ≡ Some a
         → IsTaken site (segment ∷ codes "properties" ∷ name ∷ []) v a

@@ -1,5 +1,5 @@
 -- Each form of a Thing as a whole leads to all its properties.
-use Rattle.std.proofs.Common.{◌≡◌, ℕ, Bool, true, false, List, [], ◌∷◌, ◌++◌, Option, Some, None, inl, inr, refl}
+use Rattle.std.proofs.Common.{◌≡◌, ℕ, Bool, true, false, List, [], ◌∷◌, ◌++◌, inl, inr}
 use Rattle.std.specs.Prelude.{codes, if◌then◌else◌}
 use Rattle.std.specs.List.{AllByRecursion}
 use Rattle.wot_json.specs.Tree.{Json}
@@ -11,12 +11,11 @@ use Rattle.wot_forms.specs.Forms.{form_of}
 use Rattle.wot_forms.specs.Segments.{is_plain_segment}
 use Rattle.wot_forms.specs.Generated.{plain_form, holder_path, some_without, generated_root_forms}
 use Rattle.thing_site.specs.Site.{ExposedThing, Site}
-use Rattle.description_laws.specs.Leading.{Http, Coap, Leads, RootFormLeads}
+use Rattle.description_laws.specs.Leading.{Http, Coap, RootFormLeads}
 use Rattle.description_laws.proofs.Places.{AreThere, all_read, all_written}
 use Rattle.description_laws.proofs.Forms.{holder_path_said}
 
 module _ (bases : Bases) (site : Site) (segment : List ℕ) (plain : is_plain_segment segment ≡ true) (thing : ExposedThing) (there : AreThere site segment thing) where
-
   abbrev pub EachRootLeads : List Json → Type 0
   EachRootLeads forms = AllByRecursion (λ v. RootFormLeads bases site thing (form_of [] v)) forms
 
@@ -24,9 +23,14 @@ module _ (bases : Bases) (site : Site) (segment : List ℕ) (plain : is_plain_se
   ops_by reads writes = (if reads then op.ReadAllProperties ∷ [] else []) ++ (if writes then op.WriteMultipleProperties ∷ [] else [])
 
   by_http : (reads writes : Bool) → EachRootLeads (plain_form (holder_path bases.http segment kind.Property) (ops_by reads writes))
-  by_http true true =
-      (inl (record { path = segment ∷ codes "properties" ∷ []; has = holder_path_said segment plain Http bases.http kind.Property;
-      each = (all_read site segment thing there, (all_written site segment thing there, tt)) }), tt)
+  by_http true true = (
+    inl (record {
+      path = segment ∷ codes "properties" ∷ [];
+      has = holder_path_said segment plain Http bases.http kind.Property;
+      each = (all_read site segment thing there, (all_written site segment thing there, tt));
+    }),
+    tt,
+  )
   by_http true false =
       (inl (record { path = segment ∷ codes "properties" ∷ []; has = holder_path_said segment plain Http bases.http kind.Property; each = (all_read site segment thing there, tt) }), tt)
   by_http false true =
@@ -34,9 +38,14 @@ module _ (bases : Bases) (site : Site) (segment : List ℕ) (plain : is_plain_se
   by_http false false = tt
 
   by_coap : (reads writes : Bool) → EachRootLeads (plain_form (holder_path bases.coap segment kind.Property) (ops_by reads writes))
-  by_coap true true =
-      (inr (record { path = segment ∷ codes "properties" ∷ []; has = holder_path_said segment plain Coap bases.coap kind.Property;
-      each = (all_read site segment thing there, (all_written site segment thing there, tt)) }), tt)
+  by_coap true true = (
+    inr (record {
+      path = segment ∷ codes "properties" ∷ [];
+      has = holder_path_said segment plain Coap bases.coap kind.Property;
+      each = (all_read site segment thing there, (all_written site segment thing there, tt));
+    }),
+    tt,
+  )
   by_coap true false =
       (inr (record { path = segment ∷ codes "properties" ∷ []; has = holder_path_said segment plain Coap bases.coap kind.Property; each = (all_read site segment thing there, tt) }), tt)
   by_coap false true =

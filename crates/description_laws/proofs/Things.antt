@@ -1,6 +1,6 @@
 -- The Things of a derivation have the forms that are generated for them.
-use Rattle.std.proofs.Common.{◌≡◌, ◌≢◌, ℕ, zero, suc, ◌+◌, Bool, true, false, List, [], ◌∷◌, ◌++◌, map, Option, Some, None, Result, Ok, Err, inl, inr, refl, sym, ap, subst, ◌∙◌}
-use Rattle.std.specs.Prelude.{codes, ◌||◌, ◌==◌, ◌⊎◌, ⊤}
+use Rattle.std.proofs.Common.{◌≡◌, ℕ, zero, suc, ◌+◌, Bool, true, false, List, [], ◌∷◌, ◌++◌, Option, Some, None, Result, Ok, Err, inl, inr, refl, sym, subst}
+use Rattle.std.specs.Prelude.{codes, ◌||◌, ◌==◌, ◌⊎◌}
 use Rattle.std.specs.List.{AllByRecursion, flat_map, list_any}
 use Rattle.wot_json.specs.Tree.{Json}
 use Rattle.tm_resolve.specs.declared.fault.ResolveFault.{ResolveFault}
@@ -17,7 +17,7 @@ use Rattle.tm_parts.specs.Substitution.{Values}
 use Rattle.tm_derive.specs.Given.{Given, Choice, most_below}
 use Rattle.tm_derive.specs.Dropping.{is_left_out, chosen_value}
 use Rattle.tm_derive.specs.Finishing.{indices_of, new_links, finished_value}
-use Rattle.tm_derive.specs.Submodels.{segments_of, below, named_child, link_child, child_name, children_from}
+use Rattle.tm_derive.specs.Submodels.{segments_of, named_child, link_child, child_name, children_from}
 use Rattle.tm_derive.specs.Derivation.{Things, Outcome, outcome, outcomes, outcomes_within, root_place, children, submodels, extended, optionals, unless_faulty, thing_of, tree_of, thing_tree, all_faults, derived}
 
 -- the segment of a Thing below another has a `~`
@@ -38,9 +38,11 @@ some_tree x tree is = cc
 made_tree : (given : Given) (place : _) (r : Result Json ResolveFault) (tree : Json) → tree_of given place r ≡ Some tree
     → (v : Json) × (tree ≡ generated v given.frame.bases (outcome given [] place).segment)
 made_tree given place (Err e) tree is = absurd cc
-made_tree given place (Ok value) tree is =
-    (finished_value given.frame place (indices_of (extended given place) ++ indices_of (submodels given place)) (new_links given.frame.bases place (segments_of (children given place)))
-    (chosen_value (is_left_out (optionals given place) given.choices place.segment) value), sym (some_tree (thing_tree given place value) tree is))
+made_tree given place (Ok value) tree is = (
+  finished_value given.frame place (indices_of (extended given place) ++ indices_of (submodels given place)) (new_links given.frame.bases place (segments_of (children given place)))
+      (chosen_value (is_left_out (optionals given place) given.choices place.segment) value),
+  sym (some_tree (thing_tree given place value) tree is),
+)
 
 outcome_is_made : (given : Given) (root : List ℕ) (above : List (List ℕ)) (place : _) → IsOfRoot root (outcome given above place).segment
     → IsMade given.frame.bases root (outcome given above place)
@@ -85,11 +87,12 @@ all_made : (room : ℕ) (given : Given) (root : List ℕ) (above : List (List �
     → AllByRecursion (IsMade given.frame.bases root) (outcomes_within room given above place)
 all_made zero given root above place named = tt
 all_made (suc room) given root above place named =
-    let inner : List (List ℕ) = above ++ place.model ∷ [] in
-    (outcome_is_made given root above place named,
-    unless_each (IsMade given.frame.bases root) (outcome given above place).faults (flat_map (outcomes_within room given inner) (children given place))
-    (flat_each (λ p. has_tilde p.segment ≡ true) (IsMade given.frame.bases root) (outcomes_within room given inner) (λ p tilde. all_made room given root inner p (inr tilde))
-    (children given place) (children_tilde place 1 (submodels given place))))
+    let inner : List (List ℕ) = above ++ place.model ∷ [] in (
+      outcome_is_made given root above place named,
+      unless_each (IsMade given.frame.bases root) (outcome given above place).faults (flat_map (outcomes_within room given inner) (children given place))
+          (flat_each (λ p. has_tilde p.segment ≡ true) (IsMade given.frame.bases root) (outcomes_within room given inner) (λ p tilde. all_made room given root inner p (inr tilde))
+          (children given place) (children_tilde place 1 (submodels given place))),
+    )
 
 -- ---- the Things
 

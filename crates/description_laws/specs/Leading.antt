@@ -1,6 +1,6 @@
 -- Where the forms of a derived description lead: each to its own affordance, and each of its operations to its act
 -- (TD 1.1, sections 5.3.4.2 and 8.3).
-use Rattle.std.specs.Prelude.{◌≡◌, ◌≢◌, ◌⊎◌, ℕ, List, [], ◌∷◌, ◌++◌, drop, codes, Bool, true, false, Option, Some, None, IfSome, unwrap_or, Result, Ok, if◌then◌else◌}
+use Rattle.std.specs.Prelude.{◌≡◌, ◌≢◌, ◌⊎◌, ℕ, List, [], ◌++◌, drop, codes, true, Option, Some, None, IfSome, unwrap_or, Ok, if◌then◌else◌}
 use Rattle.std.specs.List.{AllByRecursion}
 use Rattle.wot_json.specs.Tree.{Json}
 use Rattle.wot_json.specs.WellFormed.{IsWellFormed}
@@ -156,9 +156,13 @@ forms_for thing p = unwrap_or (forms_in thing.description (Some p.affordance.kin
 
 -- ---- a Thing, and all Things
 
--- All forms of a Thing lead where they say, of affordances of all names of bytes, and so does the URL of its description.
+-- all forms of an affordance, whose name may have any bytes, lead to it
+abbrev pub AffordanceIsReached : Bases → Site → ExposedThing → Placed → Type 0
+AffordanceIsReached bases site thing p = AreBytes p.affordance.name → AllByRecursion (FormLeads bases site p) (forms_for thing p)
+
+-- All forms of a Thing lead where they say, and so does the URL of its description.
 pub record IsReached (bases : Bases) (site : Site) (thing : ExposedThing) : Type 0 where
-  pub affordances : AllByRecursion (λ p. AreBytes p.affordance.name → AllByRecursion (FormLeads bases site p) (forms_for thing p)) thing.affordances
+  pub affordances : AllByRecursion (AffordanceIsReached bases site thing) thing.affordances
   pub root : AllByRecursion (RootFormLeads bases site thing) (forms_under [] thing.description)
   pub path : List (List ℕ)
   pub url : HasPath bases.http Http (description_url bases thing.segment) path

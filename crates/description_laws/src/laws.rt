@@ -14,7 +14,6 @@ pub fn encoding_is_undone()
 /// the act of that operation. So are the forms of the Thing as a whole and the URL of the description itself. Left out are
 /// the operations that end an observation over HTTP, which are no request, and those that observe a write-only property
 /// over CoAP, which are answered 4.05.
-#[tactic(auto, using(crate::proofs::Leading::lead))]
 pub fn forms_lead_to_their_affordances()
     ensures { FormsLeadToTheirAffordances }
 {}

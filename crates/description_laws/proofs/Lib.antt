@@ -10,3 +10,5 @@ mod RootForms
 mod OneThing
 mod Things
 mod Leading
+mod RouteForms
+mod Told

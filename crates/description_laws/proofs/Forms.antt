@@ -98,7 +98,7 @@ module _ (segment : List ℕ) (plain : is_plain_segment segment ≡ true) where
     subscribe_path_said b base = longer_path b base kind.Event (codes "subscribe") (encoded_is_inside (codes "subscribe")) subscribe_read
 
 -- nothing behind a path
-unchanged_path : {path : List (List ℕ)} (base url : List ℕ) → HasPath base Coap url path → HasPath base Coap (url ++ []) path
+pub unchanged_path : {path : List (List ℕ)} (base url : List ℕ) → HasPath base Coap url path → HasPath base Coap (url ++ []) path
 unchanged_path base url has = record { target = has.target; behind = append-nil url ∙ has.behind; said = has.said }
 
 -- ---- the forms

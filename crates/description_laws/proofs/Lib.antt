@@ -11,4 +11,5 @@ mod OneThing
 mod Things
 mod Leading
 mod RouteForms
+mod Saying
 mod Told

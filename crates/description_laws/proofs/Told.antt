@@ -2,5 +2,7 @@
 use Rattle.description_laws.specs.Taking.{ActsHaveTheirForm}
 use Rattle.description_laws.proofs.RouteForms.{two_forms, three_forms, four_forms, five_forms}
 
+use Rattle.description_laws.proofs.Saying.{read_said, write_said, observe_said, invoke_said, event_said, subscribe_said}
+
 pub tell : ActsHaveTheirForm
-tell = let a = two_forms in let b = three_forms in let c = four_forms in let d = five_forms in ?
+tell = let e = read_said in let f = write_said in let g = observe_said in let h = invoke_said in let i = event_said in let j = subscribe_said in let a = two_forms in let b = three_forms in let c = four_forms in let d = five_forms in ?

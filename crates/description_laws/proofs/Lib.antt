@@ -12,4 +12,5 @@ mod Things
 mod Leading
 mod RouteForms
 mod Saying
+mod ValidObjects
 mod Told

@@ -48,7 +48,7 @@ listed_for k (Some (array es)) = refl
 listed_for k None = refl
 
 -- what is found among them is found in the value
-found_in : (name : List ℕ) (v : Json) (o : Option Json) → value_under name (members_for o) ≡ Some v → option_and_then (part name) o ≡ Some v
+pub found_in : (name : List ℕ) (v : Json) (o : Option Json) → value_under name (members_for o) ≡ Some v → option_and_then (part name) o ≡ Some v
 found_in name v (Some (object ms)) is = is
 found_in name v (Some null) is = absurd cc
 found_in name v (Some (boolean b)) is = absurd cc
@@ -68,7 +68,7 @@ ordered_for (integer z) well = tt
 ordered_for (string s) well = tt
 ordered_for (array es) well = tt
 
-under_well : (name : List ℕ) (ms : Members) → MembersAreWellFormed ms → IsWellHeld (value_under name ms)
+pub under_well : (name : List ℕ) (ms : Members) → MembersAreWellFormed ms → IsWellHeld (value_under name ms)
 under_well name no_members well = tt
 under_well name (member m w ms) well = by (bytes_eq name m) (under_well name ms well.2)
   where
@@ -84,7 +84,7 @@ each_made : (bases : Bases) (segment : List ℕ) (k : Kind) (ms : List Field) �
 each_made bases segment k [] = tt
 each_made bases segment k (m ∷ ms) = ((m.1, refl), each_made bases segment k ms)
 
-made_for : (bases : Bases) (segment : List ℕ) (k : Kind) (o : Option Json) → AllByRecursion (IsWithForms bases segment k) (member_list (members_for (held_after bases segment k o)))
+pub made_for : (bases : Bases) (segment : List ℕ) (k : Kind) (o : Option Json) → AllByRecursion (IsWithForms bases segment k) (member_list (members_for (held_after bases segment k o)))
 made_for bases segment k (Some (object os)) =
     subst (λ (fs : List Field). AllByRecursion (IsWithForms bases segment k) fs) (sym (listed_members_lem (each_with_forms bases segment k (member_list os)))) (each_made bases segment k (member_list os))
 made_for bases segment k (Some null) = tt
@@ -112,19 +112,19 @@ each_in_both P (x ∷ xs) ys one other = (one.0, each_in_both P xs ys one.1 othe
 -- ---- the Thing
 
 module _ (bases : Bases) (site : Site) (segment : List ℕ) (plain : is_plain_segment segment ≡ true) (slots : Slots) (ms : Members) where
-  abbrev tree : Json
+  abbrev pub tree : Json
   tree = generated (object ms) bases segment
 
-  abbrev held : Kind → Option Json
+  abbrev pub held : Kind → Option Json
   held k = part (holder k) tree
 
-  abbrev those : Kind → Members
+  abbrev pub those : Kind → Members
   those k = members_for (held k)
 
-  abbrev thing : ExposedThing
+  abbrev pub thing : ExposedThing
   thing = exposed slots (segment, tree)
 
-  affordances_are : thing.affordances ≡ placed_all slots segment kind.Property (those kind.Property) ++ (placed_all slots segment kind.Action (those kind.Action) ++ placed_all slots segment kind.Event (those kind.Event))
+  pub affordances_are : thing.affordances ≡ placed_all slots segment kind.Property (those kind.Property) ++ (placed_all slots segment kind.Action (those kind.Action) ++ placed_all slots segment kind.Event (those kind.Event))
   affordances_are =
       ap (map (placed slots segment)) (ap₂ (λ (xs ys : List Affordance). xs ++ ys) (listed_for kind.Property (held kind.Property))
       (ap₂ (λ (xs ys : List Affordance). xs ++ ys) (listed_for kind.Action (held kind.Action)) (listed_for kind.Event (held kind.Event))))
@@ -133,7 +133,7 @@ module _ (bases : Bases) (site : Site) (segment : List ℕ) (plain : is_plain_se
       (map_both (placed slots segment) (named_affordances kind.Action (those kind.Action)) (named_affordances kind.Event (those kind.Event)))
 
   -- an affordance is found by its kind and its name
-  found : (k : Kind) (name : List ℕ) (v : Json) → value_under name (those k) ≡ Some v → affordance_named k name thing.affordances ≡ Some (placed slots segment (affordance_of k name v))
+  pub found : (k : Kind) (name : List ℕ) (v : Json) → value_under name (those k) ≡ Some v → affordance_named k name thing.affordances ≡ Some (placed slots segment (affordance_of k name v))
   found kind.Property name v is =
       ap (affordance_named kind.Property name) affordances_are
       ∙ by_member slots segment kind.Property name (those kind.Property) (placed_all slots segment kind.Action (those kind.Action) ++ placed_all slots segment kind.Event (those kind.Event)) v refl is

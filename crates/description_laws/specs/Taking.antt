@@ -1,15 +1,19 @@
 -- What a servient takes at the paths of its Things is in their descriptions, but for what is listed here.
-use Rattle.std.specs.Prelude.{◌≡◌, ◌≢◌, ◌⊎◌, ⊤, ℕ, List, [], ◌∷◌, slice_get, not, Bool, true, false, Option, Some, None, IfSome, codes, Ok}
-use Rattle.std.specs.List.{AllByRecursion, list_any}
+use Rattle.std.specs.Prelude.{◌≡◌, ◌≢◌, ◌⊎◌, ⊤, ℕ, List, [], ◌∷◌, slice_get, Bool, true, false, Option, Some, None, IfSome, codes, Ok}
+use Rattle.std.specs.List.{AllByRecursion}
+use Rattle.std.specs.Option.{option_map_or}
+use Rattle.wot_json.specs.Merge.{members_under}
 use Rattle.wot_json.specs.Tree.{Json}
 use Rattle.wot_json.specs.WellFormed.{IsWellFormed}
 use Rattle.wot_terms.specs.declared.kind.Kind.TheVariants as kind
 use Rattle.wot_terms.specs.declared.op.Op.{Op}
+use Rattle.wot_terms.specs.Affordances.{part}
+use Rattle.wot_terms.specs.Faults.{holder}
 use Rattle.wot_forms.specs.declared.bases.Bases.{Bases}
 use Rattle.wot_forms.specs.declared.form.Form.{Form}
 use Rattle.wot_forms.specs.declared.frame.Frame.{Frame}
 use Rattle.wot_forms.specs.Forms.{forms_under}
-use Rattle.wot_forms.specs.Generated.{is_coap_segment}
+use Rattle.wot_forms.specs.Generated.{is_coap_segment, some_without}
 use Rattle.wot_forms.specs.Segments.{is_plain_segment}
 use Rattle.tm_parts.specs.Library.{Models}
 use Rattle.tm_parts.specs.Substitution.{Values}
@@ -22,7 +26,7 @@ use Rattle.thing_site.specs.declared.place.Resource.{Resource}
 use Rattle.thing_site.specs.declared.place.ThingAct.{ThingAct}
 use Rattle.thing_site.specs.declared.place.ThingAct.TheVariants as act
 use Rattle.thing_site.specs.Places.{thing_in, place_at, act_at}
-use Rattle.thing_site.specs.Site.{Placed, ExposedThing, Site, Slots, site_of, those_of}
+use Rattle.thing_site.specs.Site.{Placed, ExposedThing, Site, Slots, site_of}
 use Rattle.description_laws.specs.Encoding.{AreBytes}
 use Rattle.description_laws.specs.Leading.{Binding, Http, Coap, HasPath, base_by, asked_by, asked_of_thing, forms_for}
 
@@ -54,12 +58,16 @@ IsHead v = v ≡ verb.Head
 abbrev pub IsUnsaid : Binding → Placed → Type 0
 IsUnsaid b p = (b ≡ Coap) × (is_coap_segment p.affordance.name ≡ false)
 
+-- the properties of a description, each with its name
+abbrev pub properties_of : Json → List (List ℕ × Json)
+properties_of v = option_map_or members_under (part (holder kind.Property) v) []
+
 -- no property of the Thing can be read, or none be written
 abbrev pub NoneIsRead : ExposedThing → Type 0
-NoneIsRead thing = list_any (λ (p : Placed). not p.affordance.write_only) (those_of kind.Property thing) ≡ false
+NoneIsRead thing = some_without (codes "writeOnly") (properties_of thing.description) ≡ false
 
 abbrev pub NoneIsWritten : ExposedThing → Type 0
-NoneIsWritten thing = list_any (λ (p : Placed). not p.affordance.read_only) (those_of kind.Property thing) ≡ false
+NoneIsWritten thing = some_without (codes "readOnly") (properties_of thing.description) ≡ false
 
 -- An act that is taken at a path of a Thing has its form, or is one of these: HEAD; the last emission of an event by
 -- HTTP; waiting by CoAP, which is answered as a path that is missing; names that no URL says by CoAP; asking for an

@@ -13,4 +13,5 @@ mod Leading
 mod RouteForms
 mod Saying
 mod ValidObjects
+mod ToldThing
 mod Told

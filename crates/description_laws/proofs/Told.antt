@@ -6,5 +6,7 @@ use Rattle.description_laws.proofs.Saying.{read_said, write_said, observe_said, 
 
 use Rattle.description_laws.proofs.ValidObjects.{are_objects}
 
+use Rattle.description_laws.proofs.ToldThing.{known}
+
 pub tell : ActsHaveTheirForm
-tell = let ao = are_objects in let e = read_said in let f = write_said in let g = observe_said in let h = invoke_said in let i = event_said in let j = subscribe_said in let a = two_forms in let b = three_forms in let c = four_forms in let d = five_forms in ?
+tell = let kn = known in let ao = are_objects in let e = read_said in let f = write_said in let g = observe_said in let h = invoke_said in let i = event_said in let j = subscribe_said in let a = two_forms in let b = three_forms in let c = four_forms in let d = five_forms in ?

@@ -20,7 +20,7 @@ use Rattle.description_laws.proofs.Members.{named_with, named_with_other}
 use Rattle.description_laws.proofs.Forms.{IsOf}
 
 -- what is read of a value is read of it with its forms, but for the forms
-flag_after : (forms : List Json) (name : List ℕ) (v : Json) → bytes_eq name (codes "forms") ≡ false → flag_of name (with_forms forms v) ≡ flag_of name v
+pub flag_after : (forms : List Json) (name : List ℕ) (v : Json) → bytes_eq name (codes "forms") ≡ false → flag_of name (with_forms forms v) ≡ flag_of name v
 flag_after forms name (object ms) differ =
     ap is_true (ap (member_named name) (listed_members_lem (with_member (codes "forms") (array (elements_of forms)) (member_list ms))) ∙ named_with_other name (codes "forms") (array (elements_of forms)) (member_list ms) differ)
 flag_after forms name null differ = refl

@@ -14,4 +14,6 @@ mod RouteForms
 mod Saying
 mod ValidObjects
 mod ToldThing
+mod RootTold
+mod ToldPaths
 mod Told

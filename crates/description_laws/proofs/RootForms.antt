@@ -19,7 +19,7 @@ module _ (bases : Bases) (site : Site) (segment : List ℕ) (plain : is_plain_se
   abbrev pub EachRootLeads : List Json → Type 0
   EachRootLeads forms = AllByRecursion (λ v. RootFormLeads bases site thing (form_of [] v)) forms
 
-  abbrev pub ops_by : Bool → Bool → List Op
+  abbrev ops_by : Bool → Bool → List Op
   ops_by reads writes = (if reads then op.ReadAllProperties ∷ [] else []) ++ (if writes then op.WriteMultipleProperties ∷ [] else [])
 
   by_http : (reads writes : Bool) → EachRootLeads (plain_form (holder_path bases.http segment kind.Property) (ops_by reads writes))

@@ -76,7 +76,7 @@ among_after P defaults forms (string s) is among = absurd cc
 among_after P defaults forms (array es) is among = absurd cc
 
 -- a value with its forms is an object where the value is
-object_with_forms : (forms : List Json) (v : Json) → is_object (with_forms forms v) ≡ is_object v
+pub object_with_forms : (forms : List Json) (v : Json) → is_object (with_forms forms v) ≡ is_object v
 object_with_forms forms (object ms) = refl
 object_with_forms forms null = refl
 object_with_forms forms (boolean b) = refl

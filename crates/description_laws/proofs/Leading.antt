@@ -90,17 +90,17 @@ module _ (bases : Bases) (site : Site) (segment : List ℕ) (plain : is_plain_se
 
 -- ---- all Things
 
-abbrev Thing : Type 0
+abbrev pub Thing : Type 0
 Thing = List ℕ × Json
 
 -- each Thing is found by its segment
-abbrev IsThere : Slots → Things → Thing → Type 0
+abbrev pub IsThere : Slots → Things → Thing → Type 0
 IsThere slots things t = thing_named t.0 (map (exposed slots) things) ≡ Some (exposed slots t)
 
 behind_first : (slots : Slots) (first : Thing) (things : Things) (t : Thing) → first.0 ≢ t.0 → IsThere slots things t → IsThere slots (first ∷ things) t
 behind_first slots first things t differ is = rw (other_name t.0 first.0 (λ same. differ (sym same))) is
 
-each_there : (slots : Slots) (things : Things) → AllPairs (λ (a b : Thing). a.0 ≢ b.0) things → AllByRecursion (IsThere slots things) things
+pub each_there : (slots : Slots) (things : Things) → AllPairs (λ (a b : Thing). a.0 ≢ b.0) things → AllByRecursion (IsThere slots things) things
 each_there slots [] apart = tt
 each_there slots (t ∷ things) apart = (
   rw (itself t.0).1 refl,
@@ -110,12 +110,12 @@ each_there slots (t ∷ things) apart = (
       (each_there slots things (λ i j d before within. apart (suc i) (suc j) d (omega (arith, before)) (omega (arith, within))))),
 )
 
-over_things : (slots : Slots) (P : ExposedThing → Type 0) (things : Things) → AllByRecursion (λ (t : Thing). P (exposed slots t)) things → AllByRecursion P (map (exposed slots) things)
+pub over_things : (slots : Slots) (P : ExposedThing → Type 0) (things : Things) → AllByRecursion (λ (t : Thing). P (exposed slots t)) things → AllByRecursion P (map (exposed slots) things)
 over_things slots P [] all = tt
 over_things slots P (t ∷ things) all = (all.0, over_things slots P things all.1)
 
 -- the segment of a Thing is the root's, or it has a `~`
-differs : (root word segment : List ℕ) → root ≢ word → has_tilde word ≡ false → IsOfRoot root segment → segment ≢ word
+pub differs : (root word segment : List ℕ) → root ≢ word → has_tilde word ≡ false → IsOfRoot root segment → segment ≢ word
 differs root word segment differ none (inl is) same = differ (sym is ∙ same)
 differs root word segment differ none (inr tilde) same = never (sym none ∙ sym (ap has_tilde same) ∙ tilde)
   where
@@ -129,7 +129,7 @@ pub record IsKnown (bases : Bases) (root : List ℕ) (slots : Slots) (things : T
   pub plain : is_plain_segment t.0 ≡ true
   pub well : IsWellFormed t.1
 
-all_known : (bases : Bases) (root : List ℕ) (slots : Slots) (things all : Things) → AllByRecursion (IsGenerated bases root) things → AllByRecursion (IsThere slots all) things
+pub all_known : (bases : Bases) (root : List ℕ) (slots : Slots) (things all : Things) → AllByRecursion (IsGenerated bases root) things → AllByRecursion (IsThere slots all) things
     → AllByRecursion (λ (t : Thing). is_plain_segment t.0 ≡ true) things → AllByRecursion (λ (t : Thing). IsWellFormed t.1) things → AllByRecursion (IsKnown bases root slots all) things
 all_known bases root slots [] all made there plain well = tt
 all_known bases root slots (t ∷ things) all made there plain well =

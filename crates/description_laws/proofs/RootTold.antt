@@ -1,24 +1,22 @@
 -- Reading all properties and writing several have their forms, where there is something to read or to write.
 use Rattle.std.proofs.Common.{◌≡◌, ℕ, Bool, true, false, List, [], ◌∷◌, ◌++◌, Option, Some, None, inl, inr, refl, sym, ap, ap₂, subst, ◌∙◌}
 use Rattle.std.specs.Prelude.{codes, ◌⊎◌, ◌&&◌, ◌||◌, not, if◌then◌else◌}
-use Rattle.std.specs.List.{list_any}
 use Rattle.std.specs.Option.{option_map_or}
 use Rattle.std.specs.Str.{bytes_eq}
 use Rattle.wot_json.specs.Tree.{Json, null, boolean, integer, string, array, object, Members}
 use Rattle.wot_json.specs.Lookup.{member_list, value_under}
 use Rattle.wot_json.specs.Merge.{members_under}
 use Rattle.wot_json.proofs.EqualTrees.{listed_members_lem}
-use Rattle.wot_terms.specs.declared.kind.Kind.{Kind}
 use Rattle.wot_terms.specs.declared.kind.Kind.TheVariants as kind
 use Rattle.wot_terms.specs.declared.op.Op.{Op}
 use Rattle.wot_terms.specs.declared.op.Op.TheVariants as op
 use Rattle.wot_terms.specs.Faults.{holder}
-use Rattle.wot_terms.specs.Affordances.{part, flag_of}
+use Rattle.wot_terms.specs.Affordances.{part}
 use Rattle.wot_forms.specs.declared.bases.Bases.{Bases}
 use Rattle.wot_forms.specs.declared.form.Form.{Form}
 use Rattle.wot_forms.specs.Segments.{is_plain_segment}
 use Rattle.wot_forms.specs.Forms.{form_of, list_forms, forms_under}
-use Rattle.wot_forms.specs.Generated.{is_object, some_without, each_with_forms, with_forms, generated_forms, generated_root_forms, holder_path, plain_form, generated}
+use Rattle.wot_forms.specs.Generated.{some_without, each_with_forms, generated_forms, generated_root_forms, holder_path, plain_form, generated}
 use Rattle.wot_forms.proofs.FormLists.{forms_in_list}
 use Rattle.thing_ops.specs.declared.verb.Verb.{Verb}
 use Rattle.thing_ops.specs.declared.verb.Verb.TheVariants as verb
@@ -26,12 +24,12 @@ use Rattle.thing_site.specs.declared.place.ThingAct.{ThingAct}
 use Rattle.thing_site.specs.declared.place.ThingAct.TheVariants as act
 use Rattle.thing_site.specs.Site.{ExposedThing}
 use Rattle.description_laws.specs.Leading.{Binding, Http, Coap, asked_of_thing}
-use Rattle.description_laws.specs.Taking.{Among, Says, IsSaidOfAll, properties_of}
+use Rattle.description_laws.specs.Taking.{Among, Says, properties_of}
 use Rattle.description_laws.proofs.Members.{Field}
 use Rattle.description_laws.proofs.Generation.{held_after, held_is, root_forms_held, root_forms_are}
 use Rattle.description_laws.proofs.AffordanceForms.{flag_after}
 use Rattle.description_laws.proofs.Forms.{holder_path_said}
-use Rattle.description_laws.proofs.Saying.{among_left, among_right, among_mapped}
+use Rattle.description_laws.proofs.Saying.{among_mapped}
 use Rattle.description_laws.proofs.ToldThing.{object_with_forms}
 
 -- the forms change no flag

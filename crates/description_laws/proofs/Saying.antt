@@ -1,5 +1,5 @@
 -- Each operation of an affordance has its form.
-use Rattle.std.proofs.Common.{◌≡◌, ℕ, Bool, true, false, List, [], ◌∷◌, ◌++◌, map, Option, Some, None, inl, inr, refl, sym, ap, subst, ◌∙◌, append-nil}
+use Rattle.std.proofs.Common.{◌≡◌, ℕ, Bool, true, false, List, [], ◌∷◌, ◌++◌, map, Some, None, inl, inr, refl}
 use Rattle.std.specs.Prelude.{codes, ◌⊎◌, if◌then◌else◌}
 use Rattle.wot_json.specs.Tree.{Json}
 use Rattle.wot_terms.specs.declared.kind.Kind.TheVariants as kind
@@ -17,8 +17,8 @@ use Rattle.thing_site.specs.declared.place.ThingAct.TheVariants as act
 use Rattle.thing_site.specs.Site.{Placed}
 use Rattle.description_laws.specs.Encoding.{AreBytes}
 use Rattle.description_laws.specs.Leading.{Binding, Http, Coap, HasPath, base_by, asked_by}
-use Rattle.description_laws.specs.Taking.{Among, Says, IsUnsaid}
-use Rattle.description_laws.proofs.Forms.{IsOf, path_said_by, observe_path_said, subscribe_path_said, unchanged_path}
+use Rattle.description_laws.specs.Taking.{Among, Says}
+use Rattle.description_laws.proofs.Forms.{path_said_by, observe_path_said, subscribe_path_said, unchanged_path}
 
 -- ---- lists
 

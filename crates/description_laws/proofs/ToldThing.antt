@@ -1,36 +1,36 @@
 -- What is done at the paths of one Thing, whose description is generated, has its form.
-use Rattle.std.proofs.Common.{◌≡◌, ◌≢◌, ℕ, Bool, true, false, cond, List, [], ◌∷◌, ◌++◌, map, Option, Some, None, inl, inr, refl, sym, ap, subst, ◌∙◌, append-nil}
-use Rattle.std.specs.Prelude.{codes, ◌⊎◌, ◌&&◌, not, unwrap_or, option_map, option_and_then, if◌then◌else◌}
-use Rattle.std.specs.List.{AllByRecursion, list_any}
+use Rattle.std.proofs.Common.{◌≡◌, ℕ, Bool, true, false, cond, List, [], ◌∷◌, ◌++◌, Option, Some, None, refl, sym, ap, subst, ◌∙◌, append-nil}
+use Rattle.std.specs.Prelude.{codes, ◌&&◌, unwrap_or, option_map, if◌then◌else◌}
+use Rattle.std.specs.List.{AllByRecursion}
 use Rattle.std.specs.Option.{option_map_or}
 use Rattle.std.specs.Str.{bytes_eq}
 use Rattle.std.proofs.lemmas.Slice.Eq.{bytes_eq-Decides}
-use Rattle.wot_json.specs.Tree.{Json, null, boolean, integer, string, array, object, Members, no_members, member, elements_of, members_of}
+use Rattle.wot_json.specs.Tree.{Json, null, boolean, integer, string, array, object, Members, no_members, member, elements_of}
 use Rattle.wot_json.specs.Lookup.{member_named, member_list, value_under}
-use Rattle.wot_json.specs.Merge.{with_member, members_under}
+use Rattle.wot_json.specs.Merge.{with_member}
 use Rattle.wot_json.proofs.EqualTrees.{listed_members_lem}
 use Rattle.wot_terms.specs.declared.kind.Kind.{Kind}
 use Rattle.wot_terms.specs.declared.kind.Kind.TheVariants as kind
 use Rattle.wot_terms.specs.declared.op.Op.{Op}
 use Rattle.wot_terms.specs.Faults.{holder, faults_of}
-use Rattle.wot_terms.specs.Affordances.{part, flag_of, affordance_of, named_affordances}
+use Rattle.wot_terms.specs.Affordances.{part, flag_of, affordance_of}
 use Rattle.wot_forms.specs.declared.bases.Bases.{Bases}
 use Rattle.wot_forms.specs.declared.form.Form.{Form}
 use Rattle.wot_forms.specs.Segments.{is_plain_segment}
-use Rattle.wot_forms.specs.Forms.{form_of, default_ops, list_forms, forms_under, affordance_forms, forms_in}
-use Rattle.wot_forms.specs.Generated.{is_object, some_without, with_forms, each_with_forms, generated_forms, generated_root_forms, generated}
+use Rattle.wot_forms.specs.Forms.{form_of, default_ops, list_forms, forms_under, affordance_forms}
+use Rattle.wot_forms.specs.Generated.{is_object, with_forms, generated_forms}
 use Rattle.wot_forms.proofs.FormLists.{forms_in_list}
-use Rattle.thing_site.specs.Site.{Placed, ExposedThing, Site, Slots, placed, exposed, affordance_named, is_kind}
+use Rattle.thing_site.specs.Site.{Placed, ExposedThing, Site, Slots, placed, affordance_named, is_kind}
 use Rattle.description_laws.specs.Leading.{forms_for}
 use Rattle.description_laws.specs.Taking.{Among}
 use Rattle.description_laws.proofs.Members.{Field, named_with}
-use Rattle.description_laws.proofs.Generation.{held_after, held_is}
-use Rattle.description_laws.proofs.Places.{placed_all, by_member, past_others}
+use Rattle.description_laws.proofs.Generation.{held_is}
+use Rattle.description_laws.proofs.Places.{placed_all, past_others}
 use Rattle.description_laws.proofs.Forms.{IsOf}
 use Rattle.description_laws.proofs.AffordanceForms.{is_of}
 use Rattle.description_laws.proofs.OneThing.{members_for, found_in, IsWithForms, made_for, affordances_are, found, tree, held, those, thing}
 use Rattle.description_laws.proofs.Saying.{among_mapped}
-use Rattle.description_laws.proofs.ValidObjects.{IsObjectField, are_objects}
+use Rattle.description_laws.proofs.ValidObjects.{are_objects}
 
 -- where no member has the name, none of the affordances has it
 absent : (slots : Slots) (segment : List ℕ) (k other : Kind) (name : List ℕ) (ms : Members) (rest : List Placed) → value_under name ms ≡ None

@@ -1,5 +1,5 @@
 -- What a servient takes at the paths of its Things is in their descriptions, but for what is listed here.
-use Rattle.std.specs.Prelude.{◌≡◌, ◌≢◌, ◌⊎◌, ⊤, ℕ, List, [], ◌∷◌, slice_get, Bool, true, false, Option, Some, None, IfSome, codes, Ok}
+use Rattle.std.specs.Prelude.{◌≡◌, ◌≢◌, ◌⊎◌, ⊤, ℕ, List, [], ◌∷◌, slice_get, true, false, Option, Some, IfSome, codes, Ok}
 use Rattle.std.specs.List.{AllByRecursion}
 use Rattle.std.specs.Option.{option_map_or}
 use Rattle.wot_json.specs.Merge.{members_under}

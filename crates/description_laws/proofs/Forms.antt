@@ -24,7 +24,7 @@ use Rattle.description_laws.specs.Encoding.{AreBytes}
 use Rattle.description_laws.specs.Leading.{Binding, Http, Coap, base_by, HasPath, IsTaken, FormLeads, observed_by_coap}
 use Rattle.description_laws.proofs.EncodedBytes.{IsInside, encoded_is_inside, undone}
 use Rattle.description_laws.proofs.Paths.{plain_bytes, has_path}
-use Rattle.description_laws.proofs.Places.{AreThere, read_taken, write_taken, observe_taken, invoke_taken, subscribe_taken, event_taken}
+use Rattle.description_laws.proofs.Places.{AreThere, read_taken, write_taken, observe_taken, property_target, event_target, invoke_taken, subscribe_taken, event_taken}
 
 -- ---- the paths
 
@@ -125,6 +125,7 @@ module _ (bases : Bases) (site : Site) (segment : List ℕ) (plain : is_plain_se
         path = segment ∷ codes "properties" ∷ name ∷ [];
         has = path_said_by segment plain name are Http bases.http kind.Property;
         each = (read_taken site segment thing there name p named wo, (write_taken site segment thing there name p named ro, tt));
+        targets = (tt, (tt, tt));
       }),
       tt,
     )
@@ -133,6 +134,7 @@ module _ (bases : Bases) (site : Site) (segment : List ℕ) (plain : is_plain_se
         path = segment ∷ codes "properties" ∷ name ∷ [];
         has = path_said_by segment plain name are Http bases.http kind.Property;
         each = (read_taken site segment thing there name p named wo, tt);
+        targets = (tt, tt);
       }),
       tt,
     )
@@ -141,6 +143,7 @@ module _ (bases : Bases) (site : Site) (segment : List ℕ) (plain : is_plain_se
         path = segment ∷ codes "properties" ∷ name ∷ [];
         has = path_said_by segment plain name are Http bases.http kind.Property;
         each = (write_taken site segment thing there name p named ro, tt);
+        targets = (tt, tt);
       }),
       tt,
     )
@@ -150,6 +153,7 @@ module _ (bases : Bases) (site : Site) (segment : List ℕ) (plain : is_plain_se
         path = segment ∷ codes "properties" ∷ name ∷ [];
         has = path_said_by segment plain name are Coap bases.coap kind.Property;
         each = (read_taken site segment thing there name p named wo, (write_taken site segment thing there name p named ro, tt));
+        targets = (tt, (tt, tt));
       }),
       tt,
     )
@@ -158,6 +162,7 @@ module _ (bases : Bases) (site : Site) (segment : List ℕ) (plain : is_plain_se
         path = segment ∷ codes "properties" ∷ name ∷ [];
         has = path_said_by segment plain name are Coap bases.coap kind.Property;
         each = (read_taken site segment thing there name p named wo, tt);
+        targets = (tt, tt);
       }),
       tt,
     )
@@ -166,6 +171,7 @@ module _ (bases : Bases) (site : Site) (segment : List ℕ) (plain : is_plain_se
         path = segment ∷ codes "properties" ∷ name ∷ [];
         has = path_said_by segment plain name are Coap bases.coap kind.Property;
         each = (write_taken site segment thing there name p named ro, tt);
+        targets = (tt, tt);
       }),
       tt,
     )
@@ -180,6 +186,7 @@ module _ (bases : Bases) (site : Site) (segment : List ℕ) (plain : is_plain_se
         path = segment ∷ codes "properties" ∷ name ∷ codes "observe" ∷ [];
         has = observe_path_said segment plain name are Http bases.http;
         each = (observe_taken site segment thing there name p named obs, (tt, tt));
+        targets = (tt, (tt, tt));
       }),
       tt,
     )
@@ -192,14 +199,15 @@ module _ (bases : Bases) (site : Site) (segment : List ℕ) (plain : is_plain_se
         by true is = tt
         by false is = read_taken site segment thing there name p named is
 
-    observe_leads_by_coap : (obs : Bool)
+    observe_leads_by_coap : (obs : Bool) → p.affordance.observable ≡ obs
         → EachLeads bases site p defaults (if obs then form (property_path Coap ++ []) (op.ObserveProperty ∷ op.UnobserveProperty ∷ []) (Some (codes "cov:observe")) ∷ [] else [])
-    observe_leads_by_coap false = tt
-    observe_leads_by_coap true = (
+    observe_leads_by_coap false obs = tt
+    observe_leads_by_coap true obs = (
       inr (record {
         path = segment ∷ codes "properties" ∷ name ∷ [];
         has = unchanged_path (base_by Coap bases) (property_path Coap) (path_said_by segment plain name are Coap bases.coap kind.Property);
         each = (observed_taken, (observed_taken, tt));
+        targets = (property_target site segment thing there name p named obs, (property_target site segment thing there name p named obs, tt));
       }),
       tt,
     )
@@ -211,7 +219,7 @@ module _ (bases : Bases) (site : Site) (segment : List ℕ) (plain : is_plain_se
         ++ (if obs then form (property_path Coap ++ []) (op.ObserveProperty ∷ op.UnobserveProperty ∷ []) (Some (codes "cov:observe")) ∷ [] else []))
     property_leads ro wo obs read write observe = (
       both_lead bases site p defaults _ _ (plain_leads Http ro wo read write) (observe_leads_by_http obs observe),
-      both_lead bases site p defaults _ _ (plain_leads Coap ro wo read write) (observe_leads_by_coap obs),
+      both_lead bases site p defaults _ _ (plain_leads Coap ro wo read write) (observe_leads_by_coap obs observe),
     )
 
   module _ (named : affordance_named kind.Action name thing.affordances ≡ Some p) where
@@ -223,6 +231,7 @@ module _ (bases : Bases) (site : Site) (segment : List ℕ) (plain : is_plain_se
           path = segment ∷ codes "actions" ∷ name ∷ [];
           has = path_said_by segment plain name are Http bases.http kind.Action;
           each = (invoke_taken site segment thing there name p named, tt);
+          targets = (tt, tt);
         }),
         tt,
       ),
@@ -231,6 +240,7 @@ module _ (bases : Bases) (site : Site) (segment : List ℕ) (plain : is_plain_se
           path = segment ∷ codes "actions" ∷ name ∷ [];
           has = path_said_by segment plain name are Coap bases.coap kind.Action;
           each = (invoke_taken site segment thing there name p named, tt);
+          targets = (tt, tt);
         }),
         tt,
       ),
@@ -245,6 +255,7 @@ module _ (bases : Bases) (site : Site) (segment : List ℕ) (plain : is_plain_se
           path = segment ∷ codes "events" ∷ name ∷ codes "subscribe" ∷ [];
           has = subscribe_path_said segment plain name are Http bases.http;
           each = (subscribe_taken site segment thing there name p named, (tt, tt));
+          targets = (tt, (tt, tt));
         }),
         tt,
       ),
@@ -253,6 +264,7 @@ module _ (bases : Bases) (site : Site) (segment : List ℕ) (plain : is_plain_se
           path = segment ∷ codes "events" ∷ name ∷ [];
           has = unchanged_path (base_by Coap bases) (affordance_path bases.coap segment kind.Event name) (path_said_by segment plain name are Coap bases.coap kind.Event);
           each = (event_taken site segment thing there name p named, (event_taken site segment thing there name p named, tt));
+          targets = (event_target site segment thing there name p named, (event_target site segment thing there name p named, tt));
         }),
         tt,
       ),

@@ -16,7 +16,7 @@ use Rattle.thing_ops.specs.Routes.{route_of}
 use Rattle.thing_site.specs.declared.place.Resource.TheVariants as place
 use Rattle.thing_site.specs.declared.place.ThingAct.{ThingAct}
 use Rattle.thing_site.specs.declared.place.ThingAct.TheVariants as act
-use Rattle.thing_site.specs.Places.{affordance_in, where_observable, place_at, act_at}
+use Rattle.thing_site.specs.Places.{affordance_in, where_observable, place_at, act_at, target_at}
 use Rattle.thing_site.specs.Site.{Placed, ExposedThing, Site, Slots, placed, thing_named, affordance_named, is_kind}
 use Rattle.description_laws.specs.Leading.{IsTaken}
 
@@ -117,6 +117,12 @@ module _ (site : Site) (segment : List ℕ) (thing : ExposedThing) (there : AreT
       taken = is;
     }
 
+    -- its own path is that of its emissions where it is observable
+    pub property_target : affordance_named kind.Property name thing.affordances ≡ Some p → p.affordance.observable ≡ true
+        → target_at (place_at (route_of (segment ∷ codes "properties" ∷ name ∷ [])) (segment ∷ codes "properties" ∷ name ∷ []) site) ≡ Some p.slot
+    property_target named flag =
+        ap target_at (ap (option_map place.Property) (affordance_there site segment (codes "properties") [] thing kind.Property name p there named)) ∙ rw flag refl
+
     pub read_taken : affordance_named kind.Property name thing.affordances ≡ Some p → p.affordance.write_only ≡ false → IsTaken site (segment ∷ codes "properties" ∷ name ∷ []) verb.Get (act.Reads p)
     read_taken named flag = property_taken named verb.Get (act.Reads p) (rw flag refl)
 
@@ -157,3 +163,7 @@ module _ (site : Site) (segment : List ℕ) (thing : ExposedThing) (there : AreT
       there = ap (option_map place.Event) (affordance_there site segment (codes "events") [] thing kind.Event name p there named);
       taken = refl;
     }
+
+    pub event_target : affordance_named kind.Event name thing.affordances ≡ Some p
+        → target_at (place_at (route_of (segment ∷ codes "events" ∷ name ∷ [])) (segment ∷ codes "events" ∷ name ∷ []) site) ≡ Some p.slot
+    event_target named = ap target_at (ap (option_map place.Event) (affordance_there site segment (codes "events") [] thing kind.Event name p there named))

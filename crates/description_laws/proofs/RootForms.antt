@@ -28,13 +28,14 @@ module _ (bases : Bases) (site : Site) (segment : List ℕ) (plain : is_plain_se
       path = segment ∷ codes "properties" ∷ [];
       has = holder_path_said segment plain Http bases.http kind.Property;
       each = (all_read site segment thing there, (all_written site segment thing there, tt));
+      targets = (tt, (tt, tt));
     }),
     tt,
   )
   by_http true false =
-      (inl (record { path = segment ∷ codes "properties" ∷ []; has = holder_path_said segment plain Http bases.http kind.Property; each = (all_read site segment thing there, tt) }), tt)
+      (inl (record { path = segment ∷ codes "properties" ∷ []; has = holder_path_said segment plain Http bases.http kind.Property; each = (all_read site segment thing there, tt); targets = (tt, tt) }), tt)
   by_http false true =
-      (inl (record { path = segment ∷ codes "properties" ∷ []; has = holder_path_said segment plain Http bases.http kind.Property; each = (all_written site segment thing there, tt) }), tt)
+      (inl (record { path = segment ∷ codes "properties" ∷ []; has = holder_path_said segment plain Http bases.http kind.Property; each = (all_written site segment thing there, tt); targets = (tt, tt) }), tt)
   by_http false false = tt
 
   by_coap : (reads writes : Bool) → EachRootLeads (plain_form (holder_path bases.coap segment kind.Property) (ops_by reads writes))
@@ -43,13 +44,14 @@ module _ (bases : Bases) (site : Site) (segment : List ℕ) (plain : is_plain_se
       path = segment ∷ codes "properties" ∷ [];
       has = holder_path_said segment plain Coap bases.coap kind.Property;
       each = (all_read site segment thing there, (all_written site segment thing there, tt));
+      targets = (tt, (tt, tt));
     }),
     tt,
   )
   by_coap true false =
-      (inr (record { path = segment ∷ codes "properties" ∷ []; has = holder_path_said segment plain Coap bases.coap kind.Property; each = (all_read site segment thing there, tt) }), tt)
+      (inr (record { path = segment ∷ codes "properties" ∷ []; has = holder_path_said segment plain Coap bases.coap kind.Property; each = (all_read site segment thing there, tt); targets = (tt, tt) }), tt)
   by_coap false true =
-      (inr (record { path = segment ∷ codes "properties" ∷ []; has = holder_path_said segment plain Coap bases.coap kind.Property; each = (all_written site segment thing there, tt) }), tt)
+      (inr (record { path = segment ∷ codes "properties" ∷ []; has = holder_path_said segment plain Coap bases.coap kind.Property; each = (all_written site segment thing there, tt); targets = (tt, tt) }), tt)
   by_coap false false = tt
 
   both_roots : (xs ys : List Json) → EachRootLeads xs → EachRootLeads ys → EachRootLeads (xs ++ ys)

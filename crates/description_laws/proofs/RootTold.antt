@@ -44,7 +44,6 @@ abbrev ops_by : Bool → Bool → List Op
 ops_by reads writes = (if reads then op.ReadAllProperties ∷ [] else []) ++ (if writes then op.WriteMultipleProperties ∷ [] else [])
 
 module _ (bases : Bases) (segment : List ℕ) (plain : is_plain_segment segment ≡ true) (t : ExposedThing) where
-
   abbrev words : List (List ℕ)
   words = segment ∷ codes "properties" ∷ []
 
@@ -75,7 +74,6 @@ module _ (bases : Bases) (segment : List ℕ) (plain : is_plain_segment segment 
   write_all b reads false = inl refl
 
   module _ (ms : Members) where
-
     abbrev tree : Json
     tree = generated (object ms) bases segment
 

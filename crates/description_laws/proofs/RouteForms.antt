@@ -74,7 +74,7 @@ four_forms s m n x =
 
     by : (o p u e i a : Bool) → bytes_eq x (codes "observe") ≡ o → bytes_eq m (codes "properties") ≡ p → bytes_eq x (codes "subscribe") ≡ u → bytes_eq m (codes "events") ≡ e
         → FourForms m x (cond (o && true && p && true) route.Observe
-            (cond (u && true && e && true) route.Subscribe (cond (i && true && a && true) (route.Invocation (invocation_in (s ∷ m ∷ n ∷ x ∷ []))) route.Nowhere)))
+        (cond (u && true && e && true) route.Subscribe (cond (i && true && a && true) (route.Invocation (invocation_in (s ∷ m ∷ n ∷ x ∷ []))) route.Nowhere)))
     by true true u e i a o_is p_is u_is e_is = observe (same_word m (codes "properties") p_is) (same_word x (codes "observe") o_is) refl
     by true false u e i a o_is p_is u_is e_is = second u e i a u_is e_is
     by false true u e i a o_is p_is u_is e_is = second u e i a u_is e_is

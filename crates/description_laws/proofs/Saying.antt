@@ -47,7 +47,6 @@ by_binding Coap P true h c is = inr (among_right P h c is)
 by_binding Coap P false h c is = inl (refl, refl)
 
 module _ (bases : Bases) (segment : List ℕ) (plain : is_plain_segment segment ≡ true) (name : List ℕ) (are : AreBytes name) (p : Placed) (defaults : List Op) where
-
   abbrev SaidBy : Binding → List (List ℕ) → Verb → ThingAct → Json → Type 0
   SaidBy b path v a w = Says bases b (λ o. asked_by b o p) path v a (form_of defaults w)
 
@@ -106,7 +105,6 @@ module _ (bases : Bases) (segment : List ℕ) (plain : is_plain_segment segment 
       (inl (observe_path_said segment plain name are Http bases.http, inl refl))
 
   module _ (v : Json) where
-
     pub read_said : (b : Binding) → flag_of (codes "writeOnly") v ≡ false → SaidOrNot b property_words verb.Get (act.Reads p) (generated_forms bases segment kind.Property name v)
     read_said b wo =
         of_both b (SaidBy b property_words verb.Get (act.Reads p)) (flag_of (codes "readOnly") v) (flag_of (codes "writeOnly") v) (flag_of (codes "observable") v)

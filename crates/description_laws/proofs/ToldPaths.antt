@@ -97,7 +97,6 @@ named_segment s (u ∷ things) t e = by (bytes_eq s u.segment) refl (named_segme
     by false differ later is = later is
 
 module _ (bases : Bases) (site : Site) (segment : List ℕ) (plain : is_plain_segment segment ≡ true) (slots : Slots) (ms : Members) where
-
   abbrev tree : Json
   tree = generated (object ms) bases segment
 
@@ -105,7 +104,6 @@ module _ (bases : Bases) (site : Site) (segment : List ℕ) (plain : is_plain_se
   t = exposed slots (segment, tree)
 
   module _ (there : AreThere site segment t) (valid : faults_of tree ≡ []) (b : Binding) (v : Verb) (a : ThingAct) where
-
     abbrev Told : List (List ℕ) → Type 0
     Told path = IsTold bases b t path v a
 
@@ -134,7 +132,6 @@ module _ (bases : Bases) (site : Site) (segment : List ℕ) (plain : is_plain_se
     -- ---- one affordance
 
     module _ (name : List ℕ) (are : AreBytes name) (p : Placed) where
-
       -- a form that was generated, or a name that no URL says
       pub of_said : (c : Binding) (k : _) (path : List (List ℕ)) (w : Verb) (x : ThingAct) (is : IsKnown bases segment t k name p)
           → SaidOrNot bases segment plain name are p is.defaults c path w x (generated_forms bases segment k name is.value) → IsUnsaid c p ⊎ IsSaidOf bases c t p path w x

@@ -94,7 +94,6 @@ pub record IsKnown (bases : Bases) (segment : List ℕ) (t : ExposedThing) (k : 
   pub forms : forms_for t p ≡ forms_under defaults (with_forms (generated_forms bases segment k name value) value)
 
 module _ (bases : Bases) (site : Site) (segment : List ℕ) (plain : is_plain_segment segment ≡ true) (slots : Slots) (ms : Members) where
-
   abbrev t : ExposedThing
   t = thing bases site segment plain slots ms
 

@@ -55,9 +55,10 @@ one (array es) none = absurd cc
 
 all : (ms : Members) → each_member any_object ms ≡ [] → AllByRecursion IsObjectField (member_list ms)
 all no_members none = tt
-all (member name v ms) none =
-    (one v (none_of _ (any_object v) (none_left (in_member name (any_object v)) (each_member any_object ms) none)),
-    all ms (none_right (in_member name (any_object v)) (each_member any_object ms) none))
+all (member name v ms) none = (
+  one v (none_of _ (any_object v) (none_left (in_member name (any_object v)) (each_member any_object ms) none)),
+  all ms (none_right (in_member name (any_object v)) (each_member any_object ms) none),
+)
 
 held : (k : Kind) (o : Option Json) → in_member (holder k) (option_map_or (object_with (each_member any_object)) o []) ≡ [] → AllByRecursion IsObjectField (member_list (members_for o))
 held k (Some (object ms)) none = all ms (none_of _ (each_member any_object ms) none)

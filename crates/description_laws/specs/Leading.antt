@@ -22,7 +22,7 @@ use Rattle.thing_ops.specs.Routes.{route_of}
 use Rattle.thing_site.specs.declared.place.Resource.{Resource}
 use Rattle.thing_site.specs.declared.place.ThingAct.{ThingAct}
 use Rattle.thing_site.specs.declared.place.ThingAct.TheVariants as act
-use Rattle.thing_site.specs.Places.{place_at, act_at}
+use Rattle.thing_site.specs.Places.{place_at, act_at, target_at}
 use Rattle.thing_site.specs.Site.{Placed, ExposedThing, Site, Slots, site_of}
 use Rattle.http_wire.specs.Targets.{segments_behind, segments_of}
 use Rattle.description_laws.specs.Encoding.{AreBytes}
@@ -127,6 +127,31 @@ asked_of_thing thing op.SubscribeAllEvents = None
 asked_of_thing thing op.UnsubscribeAllEvents = None
 asked_of_thing thing op.QueryAllActions = None
 
+-- Over CoAP an operation that observes has a target: that of the affordance's slot, whose emissions the observer gets.
+abbrev pub watched_by_coap : Op → Placed → Option ℕ
+watched_by_coap op.ObserveProperty p = Some p.slot
+watched_by_coap op.UnobserveProperty p = Some p.slot
+watched_by_coap op.SubscribeEvent p = Some p.slot
+watched_by_coap op.UnsubscribeEvent p = Some p.slot
+watched_by_coap op.ReadProperty p = None
+watched_by_coap op.WriteProperty p = None
+watched_by_coap op.InvokeAction p = None
+watched_by_coap op.QueryAction p = None
+watched_by_coap op.CancelAction p = None
+watched_by_coap op.ReadAllProperties p = None
+watched_by_coap op.WriteAllProperties p = None
+watched_by_coap op.ReadMultipleProperties p = None
+watched_by_coap op.WriteMultipleProperties p = None
+watched_by_coap op.ObserveAllProperties p = None
+watched_by_coap op.UnobserveAllProperties p = None
+watched_by_coap op.SubscribeAllEvents p = None
+watched_by_coap op.UnsubscribeAllEvents p = None
+watched_by_coap op.QueryAllActions p = None
+
+abbrev pub watched_by : Binding → Op → Placed → Option ℕ
+watched_by Http o p = None
+watched_by Coap o p = watched_by_coap o p
+
 -- ---- forms
 
 -- the part before the path in its URLs
@@ -134,21 +159,22 @@ abbrev pub base_by : Binding → Bases → List ℕ
 base_by Http bases = bases.http
 base_by Coap bases = bases.coap
 
--- over this binding the URL leads to where each of these operations is asked for
-pub record Leads (bases : Bases) (site : Site) (asked : Op → Option (Verb × ThingAct)) (b : Binding) (url : List ℕ) (ops : List Op) : Type 0 where
+-- over this binding the URL leads to where each of these operations is asked for, and to the target that it watches
+pub record Leads (bases : Bases) (site : Site) (asked : Op → Option (Verb × ThingAct)) (watched : Op → Option ℕ) (b : Binding) (url : List ℕ) (ops : List Op) : Type 0 where
   pub path : List (List ℕ)
   pub has : HasPath (base_by b bases) b url path
   pub each : AllByRecursion (λ o. IfSome (asked o) (λ (asks : Verb × ThingAct). IsTaken site path asks.0 asks.1)) ops
+  pub targets : AllByRecursion (λ o. IfSome (watched o) (λ slot. target_at (place_at (route_of path) path site) ≡ Some slot)) ops
 
 -- a form of an affordance is one over HTTP or one over CoAP, and leads there
 abbrev pub FormLeads : Bases → Site → Placed → Form → Type 0
 FormLeads bases site p f =
-    Leads bases site (λ o. asked_by Http o p) Http f.href f.ops ⊎ Leads bases site (λ o. asked_by Coap o p) Coap f.href f.ops
+    Leads bases site (λ o. asked_by Http o p) (λ o. watched_by Http o p) Http f.href f.ops ⊎ Leads bases site (λ o. asked_by Coap o p) (λ o. watched_by Coap o p) Coap f.href f.ops
 
 -- the same of a form of the Thing as a whole
 abbrev pub RootFormLeads : Bases → Site → ExposedThing → Form → Type 0
 RootFormLeads bases site thing f =
-    Leads bases site (asked_of_thing thing) Http f.href f.ops ⊎ Leads bases site (asked_of_thing thing) Coap f.href f.ops
+    Leads bases site (asked_of_thing thing) (λ o. None) Http f.href f.ops ⊎ Leads bases site (asked_of_thing thing) (λ o. None) Coap f.href f.ops
 
 -- the forms that the description has for an affordance
 abbrev pub forms_for : ExposedThing → Placed → List Form

@@ -1,5 +1,5 @@
 -- A buffer before an output, and what it means that a text was put into it.
-use Rattle.std.specs.Prelude.{◌≡◌, ℕ, Bool, true, false, List, [], ◌++◌}
+use Rattle.std.specs.Prelude.{◌≡◌, ℕ, List, [], ◌++◌}
 use Rattle.servient_outside.specs.declared.out.Put.{Put}
 use Rattle.servient_outside.specs.declared.out.Put.TheVariants.{Done, Failed}
 use Rattle.servient_outside.specs.Out.{OutSeen, OutShows}
@@ -16,14 +16,6 @@ buffered_of b = record { held = b.held.items; put = b.put }
 -- nothing waits, and nothing failed
 abbrev pub nothing_held : Buffered
 nothing_held = record { held = []; put = Done }
-
--- no write failed
-abbrev pub is_well_put : Put → Bool
-is_well_put Done = true
-is_well_put Failed = false
-
-abbrev pub is_well : Buffered → Bool
-is_well b = is_well_put b.put
 
 -- A text was put behind what was held. Either a write had failed before, and nothing more was written; or a piece was
 -- written, and what is held now is the rest; or the write of a piece failed, and of all that was to be written it is the

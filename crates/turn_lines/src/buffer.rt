@@ -1,7 +1,7 @@
 //! A buffer before an output, which is written when it is full and when its owner says so.
 
 ghost use Rattle.std.specs.Prelude.{◌≡◌, ◌≤◌, ◌<◌, [], ◌∷◌, IfOk, length, vec_len, vec_capacity};
-ghost use Rattle.turn_lines.specs.Buffer.{buffered_of, is_well, HasPut, nothing_held};
+ghost use Rattle.turn_lines.specs.Buffer.{buffered_of, HasPut, nothing_held};
 ghost use Rattle.servient_outside.specs.Out.{OutSeen};
 
 use itoa::{Buffer, Integer};
@@ -34,15 +34,9 @@ impl LineBuffer {
         })
     }
 
-    /// No write failed.
-    pub fn is_well(&self) -> bool
-        ensures { result ≡ is_well (buffered_of self.now) }
-    {
-        self.put == Put::Done
-    }
-
-    /// Writes what is held, where there is any.
-    pub fn flush<O: Out>(&mut self, out: &mut O)
+    /// Writes what is held, where there is any, and says whether all writes so far were done.
+    pub fn flush<O: Out>(&mut self, out: &mut O) -> Put
+        ensures answer { result ≡ (buffered_of self.new).put }
         ensures put { HasPut [] (buffered_of self.old) (buffered_of self.new) (O.seen out.old) (O.seen out.new) }
         ensures empty { (buffered_of self.new).held ≡ [] }
     {
@@ -50,6 +44,7 @@ impl LineBuffer {
             self.put = out.put(self.held.as_slice());
         }
         self.held.clear();
+        self.put
     }
 
     /// Puts bytes behind what is held.
@@ -83,7 +78,7 @@ impl LineBuffer {
         ensures room { length (buffered_of self.new).held < PIECE_BYTES }
     {
         if self.held.len() == PIECE_BYTES {
-            self.flush(out);
+            let _put = self.flush(out);
         }
     }
 

@@ -8,8 +8,7 @@
 //! ```text
 //! let mut lines = LineBuffer::new(alloc)?;
 //! put_line(&mut lines, &mut out, LoggedTurn { moment: 1500, slot: 3, turn: &turn });
-//! lines.flush(&mut out);
-//! assert!(lines.is_well());
+//! assert_eq!(lines.flush(&mut out), Put::Done);
 //! // 1500 turn 0 3 write true = done
 //! ```
 #![tactic(auto)]

@@ -14,12 +14,15 @@ ghost use Rattle.turn_lines.specs.Buffer.{buffered_of, nothing_held};
 ghost use Rattle.logged_serving.specs.Logging.{ServesLogged};
 
 use crate::run_log::{RunLog, StepTurns};
-use servient_core::{MOST_KEPT, Net, Next, Servient, What};
+use servient_core::{Net, Next, Servient, What};
 use servient_outside::{Out, Put};
 use thing_handler::Handlers;
 
 /// Room for the bytes of one event.
 const BUFFER_BYTES: usize = 4096;
+
+/// The number of turns at which the handlers forget theirs, as without a log.
+const MOST_KEPT: u64 = 4096;
 
 /// The end of serving with a log.
 #[derive(Clone, Copy, Debug, PartialEq, Eq)]

@@ -34,7 +34,7 @@ use Rattle.servient_script.specs.Merging.{turns_after as unwritten}
 use Rattle.servient_script.proofs.MergeLaws.{merged_from, have_kept}
 use Rattle.turn_lines.specs.Lines.{logged_turn}
 use Rattle.turn_lines.proofs.Putting.{out_none, out_then}
-use Rattle.logged_serving.specs.Logging.{log_from, Logs, all_written, step_unwritten, AreTakenLogged, EndsLogged, ServesLogged}
+use Rattle.logged_serving.specs.Logging.{log_from, Logs, all_written, step_unwritten, AreTakenLogged, EndsLogged, ServesLogged, answer_of}
 use Rattle.logged_serving.specs.declared.serving.LoggedEnd.{LoggedEnd}
 use Rattle.logged_serving.specs.declared.serving.LoggedEnd.TheVariants as logged
 use Rattle.logged_serving.proofs.LogTexts.{log_more, log_forgot, log_broke, step_log}
@@ -243,17 +243,19 @@ goes_more most c d f w n m slots u out middle out_now answer count due first aft
 -- nothing more happens after some rounds
 ends_quietly : (site : Site) (bounds : RunBounds) (result : LoggedEnd) (took : List EventWithBytes) (due : ℕ) (out out_now : OutSeen) (s t : State) (shown : List Shown) → EndsLogged result t ≡ Stays t → AreTakenLogged bounds t.thing.turns took result → Rounds site bounds.turns took due s shown t → Logs out out_now shown result → ServesLogged site bounds out out_now result s shown t
 ends_quietly site bounds result took due out out_now s t shown quiet taken rounds logs = record {
-  took = took;
-  run = record {
-    mid = t;
-    first = seen_in shown;
-    second = [];
-    one = rounds.run;
-    other = subst (λ (P : List Sighting → State → Type 0). P [] t) (sym quiet) (record { next = refl; saw = refl });
-    whole = sym (append-nil (seen_in shown));
+  ran = record {
+    took = took;
+    run = record {
+      mid = t;
+      first = seen_in shown;
+      second = [];
+      one = rounds.run;
+      other = subst (λ (P : List Sighting → State → Type 0). P [] t) (sym quiet) (record { next = refl; saw = refl });
+      whole = sym (append-nil (seen_in shown));
+    };
+    taken = taken;
+    in_time = rounds.in_time;
   };
-  taken = taken;
-  in_time = rounds.in_time;
   wrote = logs;
 }
 
@@ -319,20 +321,37 @@ logged_failed c d w n m slots bounds out out_now count due p below breaks = λ s
       record {
         seen = made.seen ++ last;
         move = record {
-          took = p.took;
-          run = record {
-            mid = t;
-            first = seen_in made.seen;
-            second = at_network (broke next_event) ∷ [];
-            one = made.move.rounds.run;
-            other = record { next = refl; saw = refl };
-            whole = filter_map-append seen_of made.seen last;
+          ran = record {
+            took = p.took;
+            run = record {
+              mid = t;
+              first = seen_in made.seen;
+              second = at_network (broke next_event) ∷ [];
+              one = made.move.rounds.run;
+              other = record { next = refl; saw = refl };
+              whole = filter_map-append seen_of made.seen last;
+            };
+            taken = (p.going, omega (arith, p.count_is, below));
+            in_time = in_time_then bounds.turns made.seen last 0 s.thing.turns made.move.rounds.in_time tt;
           };
-          taken = (p.going, omega (arith, p.count_is, below));
-          in_time = in_time_then bounds.turns made.seen last 0 s.thing.turns made.move.rounds.in_time tt;
           wrote = all_written (λ isnt. cc) (subst (λ (x : List ℕ). OutShows out out_now put.Done x) (sym (log_broke 0 made.seen next_event)) made.move.wrote);
         };
         shows = sections_in_order.more w (outside n slots) (outside m slots) made.seen last made.shows
             (section (outside n slots) (outside m slots) last (at_network (broke next_event) ∷ []) refl (shows_at_network n m slots (broke next_event) breaks));
       },
     )
+
+-- ---- what was written, as one text
+
+-- the whole text of a run's lines was written, or a beginning of it
+pub logs_shown : (out out_now : OutSeen) (shown : List Shown) (result : LoggedEnd) → Logs out out_now shown result → OutShows out out_now (answer_of result) (log_from 0 shown)
+logs_shown out out_now shown logged.Stopped (all_written isnt wrote) = wrote
+logs_shown out out_now shown logged.Failed (all_written isnt wrote) = wrote
+logs_shown out out_now shown logged.Spent (all_written isnt wrote) = wrote
+logs_shown out out_now shown logged.Unwritten (all_written isnt wrote) = absurd (isnt refl)
+logs_shown out out_now shown logged.Stopped (step_unwritten first e step middle is whole quiet before failed) = absurd cc
+logs_shown out out_now shown logged.Failed (step_unwritten first e step middle is whole quiet before failed) = absurd cc
+logs_shown out out_now shown logged.Spent (step_unwritten first e step middle is whole quiet before failed) = absurd cc
+logs_shown out out_now shown logged.Unwritten (step_unwritten first e step middle is whole quiet before failed) =
+    subst (λ (x : List Shown). OutShows out out_now put.Failed (log_from 0 x)) (sym whole)
+    (subst (λ (x : List ℕ). OutShows out out_now put.Failed x) (sym (log_more 0 first e step)) (out_then out middle out_now put.Failed (log_from 0 first) (log_from e.event.moment (shown_of step)) before failed))

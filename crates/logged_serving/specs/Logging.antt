@@ -3,6 +3,7 @@ use Rattle.std.specs.Prelude.{◌≡◌, ◌≢◌, ◌≤◌, ℕ, List, [], �
 use Rattle.servient_base.specs.Moves.{Becomes, Stays, Then}
 use Rattle.thing_handler.specs.Turns.{answered, missed}
 use Rattle.servient_outside.specs.declared.net.EventWithBytes.{EventWithBytes}
+use Rattle.servient_outside.specs.declared.out.Put.{Put}
 use Rattle.servient_outside.specs.declared.out.Put.TheVariants as put
 use Rattle.servient_outside.specs.Network.{heard, did, broke, next_event, events_in}
 use Rattle.servient_outside.specs.Out.{OutSeen, OutShows}
@@ -59,10 +60,21 @@ EndsLogged logged.Failed s = Becomes s (at_network (broke next_event) ∷ [])
 EndsLogged logged.Spent s = Stays s
 EndsLogged logged.Unwritten s = Stays s
 
--- Serving with a log within these bounds: one run of the machine over all its events, and then its end; and its lines.
-pub record ServesLogged (site : Site) (bounds : RunBounds) (out out_now : OutSeen) (result : LoggedEnd) (s : State) (shown : List Shown) (t : State) : Type 0 where
+-- Serving with a log within these bounds: one run of the machine over all its events, and then its end.
+pub record RunsLogged (site : Site) (bounds : RunBounds) (result : LoggedEnd) (s : State) (shown : List Shown) (t : State) : Type 0 where
   pub took : List EventWithBytes
   pub run : Then (Run site took) (EndsLogged result) s (seen_in shown) t
   pub taken : AreTakenLogged bounds t.thing.turns took result
   pub in_time : IsInTime bounds.turns 0 s.thing.turns shown
+
+-- the run, and its lines
+pub record ServesLogged (site : Site) (bounds : RunBounds) (out out_now : OutSeen) (result : LoggedEnd) (s : State) (shown : List Shown) (t : State) : Type 0 where
+  pub ran : RunsLogged site bounds result s shown t
   pub wrote : Logs out out_now shown result
+
+-- the answer of the last write of a run that ended so
+abbrev pub answer_of : LoggedEnd → Put
+answer_of logged.Stopped = put.Done
+answer_of logged.Failed = put.Done
+answer_of logged.Spent = put.Done
+answer_of logged.Unwritten = put.Failed

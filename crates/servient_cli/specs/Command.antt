@@ -3,7 +3,7 @@
 -- The grammar gives the meaning of the words, `meaning_of` of `command_words`.
 -- `replay SCRIPT [PLAN]` reads the plan and its models, if a plan is named, and the script, runs its events, and prints
 -- the acts and the turns. `serve PLAN` reads a plan and its models, listens at the plan's place, and serves what comes
--- there, as many events as its budget has. `check TD` reads a Thing Description and says whether it is valid, or its
+-- there, as many events as its budget has; with `--log` it writes a line for each turn besides. `check TD` reads a Thing Description and says whether it is valid, or its
 -- first fault. `derive PLAN` reads a plan and its models, and prints the descriptions of its Things, or the first
 -- fault; with `--table` it prints what the plan gives each affordance in their place. `storm SEED N` runs events that are
 -- drawn from a seed on the built-in Thing, and counts what came of them. `consume TD OPERATION NAME` reads a description,
@@ -23,7 +23,7 @@ use Rattle.command_words.specs.Grammar.{meaning_of}
 use Rattle.command_words.specs.declared.command.Command.{Command}
 use Rattle.command_words.specs.declared.command.Consumption.{Consumption}
 use Rattle.command_words.specs.Operations.{form_operation}
-use Rattle.command_words.specs.declared.command.Command.TheVariants.{Replay, Serve, Check, Derive, Table, Consume, Storm, Discover}
+use Rattle.command_words.specs.declared.command.Command.TheVariants.{Replay, Serve, ServeLogged, Check, Derive, Table, Consume, Storm, Discover}
 use Rattle.servient_outside.specs.declared.files.HeldFile.{HeldFile}
 use Rattle.servient_outside.specs.Told.{Continues}
 use Rattle.servient_outside.specs.Files.{content_of}
@@ -37,6 +37,7 @@ use Rattle.command_stages.specs.Inputs.{built_in}
 use Rattle.servient_cli.specs.Replaying.{Replays, IsFaultlessScript}
 use Rattle.servient_cli.specs.Storming.{Storms}
 use Rattle.servient_cli.specs.Listening.{ServesPlan}
+use Rattle.servient_cli.specs.LoggedServing.{LogsPlan}
 use Rattle.servient_cli.specs.Consuming.{ConsumesThing}
 use Rattle.servient_cli.specs.Discovering.{DiscoversThings}
 use Rattle.command_stages.specs.Checking.{Checks, IsFaultlessDescription}
@@ -50,6 +51,7 @@ use Rattle.command_stages.specs.Tabling.{TablesPlan}
 abbrev pub Does : Option (List HeldFile) → List Kind → Command → List Deed → Outcome (Unit {0}) → Type 0
 Does held kinds (Replay script plan events) = Replays held kinds script plan events
 Does held kinds (Serve plan budget idle) = ServesPlan held kinds plan budget idle
+Does held kinds (ServeLogged plan budget idle) = LogsPlan held kinds plan budget idle
 Does held kinds (Check description) = AndThen (ReadsFile held longest_json description) (Checks description)
 Does held kinds (Derive plan) = AndThen (ReadsPlanned held plan) DerivesAndPrints
 Does held kinds (Table plan) = TablesPlan held kinds plan
@@ -60,7 +62,13 @@ Does held kinds (Discover host port) = DiscoversThings host port
 -- the words mean that a plan is served
 abbrev pub is_serving : Option Command → Bool
 is_serving (Some (Serve plan budget idle)) = true
+is_serving (Some (ServeLogged plan budget idle)) = true
 is_serving command = false
+
+-- the words mean that a plan is served with a log
+abbrev pub is_logging : Option Command → Bool
+is_logging (Some (ServeLogged plan budget idle)) = true
+is_logging command = false
 
 -- the words mean a storm
 abbrev pub is_storm : Option Command → Bool
@@ -73,6 +81,13 @@ is_asking (Some (Consume consumption)) = true
 is_asking (Some (Discover host port)) = true
 is_asking command = false
 
+-- the words mean a command that writes as it goes: one that asks others, or one with a log
+abbrev pub is_writing : Option Command → Bool
+is_writing (Some (ServeLogged plan budget idle)) = true
+is_writing (Some (Consume consumption)) = true
+is_writing (Some (Discover host port)) = true
+is_writing command = false
+
 -- the words mean that a server is asked for its Things
 abbrev pub is_discovering : Option Command → Bool
 is_discovering (Some (Discover host port)) = true
@@ -81,6 +96,7 @@ is_discovering command = false
 -- the words mean a command that uses the network
 abbrev pub is_networked : Option Command → Bool
 is_networked (Some (Serve plan budget idle)) = true
+is_networked (Some (ServeLogged plan budget idle)) = true
 is_networked (Some (Consume consumption)) = true
 is_networked (Some (Discover host port)) = true
 is_networked command = false
@@ -89,6 +105,7 @@ is_networked command = false
 abbrev pub calls_handlers : Option Command → Bool
 calls_handlers (Some (Replay script plan events)) = true
 calls_handlers (Some (Serve plan budget idle)) = true
+calls_handlers (Some (ServeLogged plan budget idle)) = true
 calls_handlers (Some (Storm seed events)) = true
 calls_handlers command = false
 
@@ -189,6 +206,7 @@ pub record IsFaultlessConsumption (files : List HeldFile) (k : Consumption) : Ty
 abbrev pub HasFaultlessFiles : List HeldFile → List Kind → Command → Type 0
 HasFaultlessFiles files kinds (Replay script plan events) = IsFaultlessReplay files kinds script plan events
 HasFaultlessFiles files kinds (Serve plan budget idle) = IsFaultlessServing files kinds plan
+HasFaultlessFiles files kinds (ServeLogged plan budget idle) = IsFaultlessServing files kinds plan
 HasFaultlessFiles files kinds (Check description) = HoldsFaultless files longest_json description IsFaultlessDescription
 HasFaultlessFiles files kinds (Derive plan) = IsFaultlessDerivation files plan
 HasFaultlessFiles files kinds (Table plan) = IsFaultlessServing files kinds plan

@@ -1,5 +1,6 @@
 mod FaultlessStages
 mod ServedStages
+pub mod LoggedStages
 mod CommandStages
 mod ConsumingStages
 mod UsageStages

@@ -2,6 +2,7 @@
 use Rattle.std.proofs.Common.{◌≡◌, ◌*◌, ◌⊎◌, ◌∙◌, ℕ, List, [], ◌∷◌, ◌++◌, length, map, Result, Ok, Err, Some, Option, refl, sym, ap, subst, arith, inl, inr, append_assoc}
 use Rattle.std.proofs.lemmas.List.{append-nil, length-map}
 use Rattle.std.proofs.lemmas.Grind.{flat_map-append}
+use Rattle.std.proofs.lemmas.List.Elements.{filter_map-append}
 use Rattle.servient_base.specs.Moves.{Refines}
 use Rattle.wot_json.specs.Tree.{Json}
 use Rattle.wot_terms.specs.declared.kind.Kind.{Kind}
@@ -36,10 +37,10 @@ use Rattle.command_stages.specs.declared.derivation.Planned.{Planned}
 use Rattle.command_stages.specs.declared.ending.Ending.{Ending}
 use Rattle.command_stages.specs.declared.ending.Ended.{Ended}
 use Rattle.command_stages.specs.Lines.{network_line}
-use Rattle.command_stages.specs.Stages.{Deed, did_see, did_write, sees, HasFailed, reads_in, showings_in, text_in, written_in, Outcome, goes_on, ends, AndThen, Around, around, ShowsDeeds}
+use Rattle.command_stages.specs.Stages.{Deed, did_see, did_write, sees, HasFailed, reads_in, showings_in, sighting_in, sightings_in, text_in, written_in, Outcome, goes_on, ends, AndThen, Around, around, ShowsDeeds}
 use Rattle.command_stages.specs.Ending.{final_status, final_text}
 use Rattle.command_stages.specs.Deriving.{ReadsPlanned, derived_of}
-use Rattle.command_stages.proofs.StageLaws.{line_alone, shows_then, shows_wrote}
+use Rattle.command_stages.proofs.StageLaws.{line_alone, seen_among, shows_then, shows_wrote}
 use Rattle.command_stages.proofs.FaultlessReading.{GoesOn, HasTrouble, trouble_before, trouble_after, then_well}
 use Rattle.servient_cli.specs.Opening.{Opens}
 use Rattle.servient_cli.specs.Listening.{Listens}
@@ -101,6 +102,12 @@ text_logged moment owed (saw (at_network (did act)) ∷ shown) = text_logged mom
 text_logged moment owed (saw (at_network (broke call)) ∷ shown) = text_written owed _ ∙ ap (λ (x : List ℕ). owed ++ x) (text_logged moment [] shown)
 text_logged moment owed (saw (at_handler (answered turn)) ∷ shown) = text_logged moment (owed ++ logged_turn moment turn) shown ∙ append_assoc owed (logged_turn moment turn) (log_from moment shown)
 text_logged moment owed (saw (at_handler (missed slot)) ∷ shown) = text_logged moment (owed ++ []) shown ∙ ap (λ (x : List ℕ). x ++ log_from moment shown) (append-nil owed)
+
+-- and so of the run without its forgettings
+pub sightings_logged : (heading line : List ℕ) (shown : List Shown) → sightings_in ((did_write heading ∷ with_log 0 [] shown) ++ did_write line ∷ []) ≡ seen_in shown
+sightings_logged heading line shown =
+    filter_map-append sighting_in (did_write heading ∷ with_log 0 [] shown) (did_write line ∷ []) ∙ append-nil (sightings_in (with_log 0 [] shown))
+    ∙ sym (seen_among (with_log 0 [] shown)) ∙ ap seen_in (showings_logged 0 [] shown)
 
 shows_logged : (files : FilesSeen) (w v : Outside) (shown : List Shown) → ShowsInSections w v shown → ShowsDeeds (around files w) (around files v) (with_log 0 [] shown)
 shows_logged files w v shown shows = record {

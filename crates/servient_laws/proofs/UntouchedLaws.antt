@@ -10,7 +10,7 @@ use Rattle.thing_handler.specs.Turns.{GrewBy, CountMisses, RackShows}
 use Rattle.thing_site.specs.Exposing.{kinds_of}
 use Rattle.command_words.specs.Grammar.{meaning_of}
 use Rattle.command_words.specs.declared.command.Command.{Command}
-use Rattle.command_words.specs.declared.command.Command.TheVariants.{Replay, Serve, Check, Derive, Table, Consume, Storm, Discover}
+use Rattle.command_words.specs.declared.command.Command.TheVariants.{Replay, Serve, ServeLogged, Check, Derive, Table, Consume, Storm, Discover}
 use Rattle.servient_outside.specs.declared.files.HeldFile.{HeldFile}
 use Rattle.servient_outside.specs.declared.place.Place.{Place}
 use Rattle.servient_outside.specs.Network.{event_in, events_in}
@@ -28,6 +28,10 @@ use Rattle.command_stages.specs.Deriving.{ReadsPlan, is_plan, is_no_plan, plan_m
 use Rattle.command_stages.specs.Tabling.{PrintsTable, is_tabled, is_tabled_with, table_memory, Tables}
 use Rattle.servient_cli.specs.Opening.{Exposes, is_exposed, is_misfit, expose_memory, Opens}
 use Rattle.servient_cli.specs.Listening.{Listens, is_listening, cannot_listen, place_memory, listen_memory, ServesEvents, has_served, Endures, has_endured, ServesBy, ServesPlanned}
+use Rattle.servient_core.specs.declared.sections.RunBounds.{RunBounds}
+use Rattle.servient_plan.specs.declared.plan.Plan.{Plan}
+use Rattle.logged_serving.specs.declared.serving.LoggedEnd.TheVariants as logged
+use Rattle.servient_cli.specs.LoggedServing.{bounds_of, TakesLog, log_taken, log_memory, ServesWithLog, heading_unwritten, has_logged, ListensAndLogs, LogsPlanned}
 use Rattle.servient_cli.specs.Command.{Does, Commands, is_no_command, is_command, words_memory, IsNoCommand, is_serving, IsReported}
 use Rattle.command_stages.proofs.StageLaws.{seen_among}
 use Rattle.servient_trace.specs.ShownSections.{Shown, seen_in, ShowsInSections}
@@ -132,6 +136,7 @@ quiet_command held kinds (Table plan) is =
     then_unseen (ReadsPlanned held plan) (Tables plan kinds) (planned_unseen held plan) (λ p. then_unseen (Derives p) (PrintsTable plan kinds p.plan) (derived_unseen p) (tabled_unseen plan kinds p.plan))
 quiet_command held kinds (Replay script plan events) is = absurd cc
 quiet_command held kinds (Serve plan budget idle) is = absurd cc
+quiet_command held kinds (ServeLogged plan budget idle) is = absurd cc
 quiet_command held kinds (Storm seed events) is = absurd cc
 quiet_command held kinds (Consume consumption) is = absurd cc
 quiet_command held kinds (Discover host port) is = absurd cc
@@ -226,6 +231,32 @@ serve_settles held kinds plan budget idle =
     (then_unseen (Derives p) (Exposes plan kinds p.plan) (derived_unseen p) (exposed_unseen plan kinds p.plan))
     (λ site. listens_then (place_of p.plan (idle * 1000)) budget p.plan.exchanges p.plan.epoch site))
 
+-- the same with a log
+taken_unseen : Quiet TakesLog
+taken_unseen seen o (log_taken saw goes) = ap showings_in saw
+taken_unseen seen o (log_memory end) = ap showings_in end.0
+
+log_settles : (bounds : RunBounds) (plan : Plan) (site : Site) → Settles (ServesWithLog bounds plan site)
+log_settles bounds plan site seen o (heading_unwritten out) = inr (7, out.1, inr (inr (inr refl)))
+log_settles bounds plan site seen o (has_logged logged.Stopped shown end ran out) = inr (0, out.1, inl refl)
+log_settles bounds plan site seen o (has_logged logged.Failed shown end ran out) = inr (6, out.1, inr (inl refl))
+log_settles bounds plan site seen o (has_logged logged.Spent shown end ran out) = inr (8, out.1, inr (inr (inl refl)))
+log_settles bounds plan site seen o (has_logged logged.Unwritten shown end ran out) = inr (7, out.1, inr (inr (inr refl)))
+
+logs_then : (budget : Budget) (idle : ℕ) (plan : Plan) (site : Site) → Settles (ListensAndLogs budget idle plan site)
+logs_then budget idle plan site seen o (ends_first status stage is) = inl (listens_untaken (place_of plan (idle * 1000)) seen (ends status) stage)
+logs_then budget idle plan site seen o (goes_further (x, w)) = elim (log_settles (bounds_of budget site) plan site w.second o w.other) [
+  | inl none ↦ inl (untaken_then w.first w.second seen w.whole (listens_untaken (place_of plan (idle * 1000)) w.first (goes_on x) w.one) none)
+  | inr served ↦ inr served
+]
+
+logging_settles : (held : Option (List HeldFile)) (kinds : List Kind) (plan : List ℕ) (budget : Budget) (idle : ℕ) → Settles (Does held kinds (ServeLogged plan budget idle))
+logging_settles held kinds plan budget idle =
+    after_unseen (ReadsPlanned held plan) (LogsPlanned plan kinds budget idle) (planned_unseen held plan)
+    (λ p. after_unseen (Opens plan kinds p) (λ site. AndThen TakesLog (λ _. ListensAndLogs budget idle p.plan site))
+    (then_unseen (Derives p) (Exposes plan kinds p.plan) (derived_unseen p) (exposed_unseen plan kinds p.plan))
+    (λ site. after_unseen TakesLog (λ _. ListensAndLogs budget idle p.plan site) taken_unseen (λ _. logs_then budget idle p.plan site)))
+
 abbrev ends_as : ℕ → Outcome (Unit {0})
 ends_as status = ends status
 
@@ -235,6 +266,10 @@ same_end m n e = cc
 serving_settles : (held : Option (List HeldFile)) (kinds : List Kind) (command : Command) (seen : List Deed) (status : ℕ) → is_serving (Some command) ≡ true → Does held kinds command seen (ends status)
     → TookNothing seen ⊎ MayHaveServed status
 serving_settles held kinds (Serve plan budget idle) seen status is does = elim (serve_settles held kinds plan budget idle seen (ends status) does) [
+  | inl none ↦ inl none
+  | inr (other, same, served) ↦ inr (subst MayHaveServed (same_end other status (sym same)) served)
+]
+serving_settles held kinds (ServeLogged plan budget idle) seen status is does = elim (logging_settles held kinds plan budget idle seen (ends status) does) [
   | inl none ↦ inl none
   | inr (other, same, served) ↦ inr (subst MayHaveServed (same_end other status (sym same)) served)
 ]

@@ -48,7 +48,6 @@ use Rattle.command_stages.specs.Describing.{TakesDescription, is_taken, has_faul
 use Rattle.servient_cli.specs.Consuming.{Chooses, is_chosen, has_no_affordance, has_no_form, choose_memory, deeds_of, status_after, line_after, EndsAfter, has_ended, line_memory, IsOperated, Operates, OperatesOn, ConsumesBy, ConsumesThing}
 use Rattle.servient_cli.specs.Opening.{Exposes, is_exposed, is_misfit, expose_memory, Opens}
 use Rattle.servient_core.specs.declared.sections.RunBounds.{RunBounds}
-use Rattle.servient_plan.specs.declared.plan.Plan.{Plan}
 use Rattle.logged_serving.specs.declared.serving.LoggedEnd.TheVariants as logged
 use Rattle.servient_cli.specs.LoggedServing.{bounds_of, heading_of, TakesLog, log_taken, log_memory, ServesWithLog, heading_unwritten, has_logged, ListensAndLogs, LogsPlanned}
 use Rattle.servient_cli.proofs.LoggedStages.{sightings_logged}

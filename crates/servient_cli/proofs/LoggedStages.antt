@@ -27,7 +27,7 @@ use Rattle.servient_core.specs.declared.sections.RunBounds.{RunBounds}
 use Rattle.servient_plan.specs.declared.plan.Plan.{Plan}
 use Rattle.servient_plan.specs.Plan.{place_of}
 use Rattle.command_words.specs.declared.command.Budget.{Budget}
-use Rattle.turn_lines.specs.Lines.{logged_turn}
+use Rattle.turn_lines.specs.Lines.{logged_turn, serving_line}
 use Rattle.turn_lines.proofs.Putting.{out_then}
 use Rattle.logged_serving.specs.declared.serving.LoggedEnd.{LoggedEnd}
 use Rattle.logged_serving.specs.declared.serving.LoggedEnd.TheVariants as logged
@@ -181,9 +181,11 @@ logged_ends bounds plan kept later files w v out middle out_now line answer resu
     done put.Done isnt = refl
     done put.Failed isnt = absurd (isnt refl)
 
--- the number of Things that are served is that of those that were derived
-pub as_many_things : (p : Site) (q : Site) → p ≡ q → length p.things ≡ length q.things
-as_many_things p q same = ap (λ (s : Site). length s.things) same
+-- the serving line of these texts is that of the plan
+pub heading_same : (plan : Plan) (site : Site) (http coap : List ℕ) (things : ℕ) → http ≡ plan.frame.bases.http → coap ≡ plan.frame.bases.coap → things ≡ length site.things → serving_line http coap things ≡ heading_of plan site
+heading_same plan site http coap things by_http by_coap count =
+    ap (λ (x : List ℕ). serving_line x coap things) by_http ∙ ap (λ (x : List ℕ). serving_line plan.frame.bases.http x things) by_coap
+    ∙ ap (λ (n : ℕ). serving_line plan.frame.bases.http plan.frame.bases.coap n) count
 
 -- a command that came out so, by its status and its text
 pub printing_as : (P : List Deed → Outcome (Unit {0}) → Type 0) (before now : Around) (out out_now : OutSeen) (status : ℕ) (text : List ℕ) (r : Result Ending Ended) → ComesOutPrinting P before now out out_now status text → final_status r ≡ status → final_text r ≡ text → EndsPrinting P before now out out_now r

@@ -122,12 +122,10 @@ fn log_counted<N: Net, R: Handlers, O: Out>(
         (around files (outside (N.seen net.new) (R.slots rack.new)))
         (O.seen out.old) (O.seen out.new) (status_at_log_end result) (line_at_log_end result) }
 {
-    let bases = &plan.frame.bases;
-    let heading = Heading {
-        http: bases.http.as_str(),
-        coap: bases.coap.as_str(),
-        things: counted.things,
-    };
+    let http = plan.frame.bases.http.as_str();
+    let coap = plan.frame.bases.coap.as_str();
+    let things = counted.things;
+    let heading = Heading { http, coap, things };
     if log.begin(out, heading) == Put::Failed {
         return LoggedEnd::Unwritten;
     }

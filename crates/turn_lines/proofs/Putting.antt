@@ -8,7 +8,7 @@ use Rattle.servient_outside.specs.declared.out.Put.TheVariants as put
 use Rattle.servient_outside.specs.Out.{OutSeen, OutShows}
 use Rattle.servient_outside.proofs.ToldLaws.{continues_same, continues_then}
 use Rattle.servient_outside.proofs.OutLaws.{fits_none, fits_then, fits_no_longer}
-use Rattle.turn_lines.specs.Buffer.{Buffered, HasPut, had_failed, is_put, has_failed}
+use Rattle.turn_lines.specs.Buffer.{Buffered, HasPut, had_failed, is_put, has_failed, WritesHeld, nothing_to_write, has_written}
 
 -- ---- the output
 
@@ -99,3 +99,39 @@ put_same s t {a} {b} {o} {p} is has = subst (λ (x : List ℕ). HasPut x a b o p
 -- four texts, as the spelling of lists and objects has them
 pub put_four : (s t u v : List ℕ) {a b c d e : Buffered} {o p q r w : OutSeen} → HasPut s a b o p → HasPut t b c p q → HasPut u c d q r → HasPut v d e r w → HasPut (s ++ (t ++ (u ++ v))) a e o w
 put_four s t u v first second third fourth = put_then first (put_then second (put_then third fourth))
+
+-- ---- the functions of the buffer
+
+pub writes_nothing : (b : Buffered) (o : OutSeen) (answer : Put) → answer ≡ b.put → b.held ≡ [] → WritesHeld b o o answer
+writes_nothing b o answer is empty = nothing_to_write is refl (λ done. empty)
+
+pub stays_failed : (b : Buffered) (o : OutSeen) → b.put ≡ put.Failed → WritesHeld b o o put.Failed
+stays_failed b o failed = nothing_to_write (sym failed) refl (λ done. absurd (apart b.put done failed))
+
+pub writes_all : (b : Buffered) (o p : OutSeen) (answer : Put) → b.put ≡ put.Done → OutShows o p answer b.held → WritesHeld b o p answer
+writes_all b o p answer done shows = has_written done shows
+
+pub flushed : (b now : Buffered) (o p : OutSeen) (answer : Put) → WritesHeld b o p answer → now.held ≡ [] → now.put ≡ answer → HasPut [] b now o p
+flushed b now o p answer (nothing_to_write is stays none) empty same = by_put b.put refl
+  where
+    by_put : (x : Put) → b.put ≡ x → HasPut [] b now o p
+    by_put put.Failed was = had_failed was (same ∙ is ∙ was) stays
+    by_put put.Done was =
+        subst (λ (z : OutSeen). HasPut [] b now o z) (sym stays)
+        (is_put [] was (same ∙ is ∙ was) (out_none o) (append-nil b.held ∙ none was ∙ sym empty))
+flushed b now o p put.Done (has_written was shows) empty same =
+    is_put b.held was same shows (ap (λ (x : List ℕ). b.held ++ x) (sym empty))
+flushed b now o p put.Failed (has_written was shows) empty same = has_failed b.held [] was same shows refl
+
+pub put_after_room : (text : List ℕ) (a b c : Buffered) (o p : OutSeen) → HasPut [] a b o p → ((x : OutSeen) → HasPut text b c x x) → HasPut text a c o p
+put_after_room text a b c o p first second = put_then first (second p)
+
+pub keeps_byte : (b now : Buffered) (byte : ℕ) (o : OutSeen) → b.put ≡ put.Done → now.put ≡ put.Done → now.held ≡ b.held ++ byte ∷ [] → HasPut (byte ∷ []) b now o o
+keeps_byte b now byte o was is held = is_put [] was is (out_none o) (sym held)
+
+pub keeps_none : (b now : Buffered) (byte : ℕ) (o : OutSeen) → ¬ (b.put ≡ put.Done) → now.put ≡ b.put → HasPut (byte ∷ []) b now o o
+keeps_none b now byte o isnt same = by_put b.put refl
+  where
+    by_put : (x : Put) → b.put ≡ x → HasPut (byte ∷ []) b now o o
+    by_put put.Done was = absurd (isnt was)
+    by_put put.Failed was = had_failed was (same ∙ was) refl

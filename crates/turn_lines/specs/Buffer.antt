@@ -26,3 +26,8 @@ pub data HasPut (text : List ℕ) (before now : Buffered) (out out_now : OutSeen
       → HasPut text before now out out_now
   has_failed : (piece rest : List ℕ) → before.put ≡ Done → now.put ≡ Failed → OutShows out out_now Failed piece → before.held ++ text ≡ piece ++ rest
       → HasPut text before now out out_now
+
+-- What is held is written, where there is any: the answer is that of the write, or of the last one before.
+pub data WritesHeld (b : Buffered) (out out_now : OutSeen) (answer : Put) : Type 0 where
+  nothing_to_write : answer ≡ b.put → out_now ≡ out → (b.put ≡ Done → b.held ≡ []) → WritesHeld b out out_now answer
+  has_written : b.put ≡ Done → OutShows out out_now answer b.held → WritesHeld b out out_now answer

@@ -1,7 +1,7 @@
 //! A buffer before an output, which is written when it is full and when its owner says so.
 
 ghost use Rattle.std.specs.Prelude.{◌≡◌, ◌≤◌, ◌<◌, [], ◌∷◌, IfOk, length, vec_len, vec_capacity};
-ghost use Rattle.turn_lines.specs.Buffer.{buffered_of, HasPut, nothing_held};
+ghost use Rattle.turn_lines.specs.Buffer.{buffered_of, HasPut, WritesHeld, nothing_held};
 ghost use Rattle.servient_outside.specs.Out.{OutSeen};
 
 use itoa::{Buffer, Integer};
@@ -35,16 +35,29 @@ impl LineBuffer {
     }
 
     /// Writes what is held, where there is any, and says whether all writes so far were done.
+    #[tactic(auto, using(crate::proofs::Putting::flushed))]
     pub fn flush<O: Out>(&mut self, out: &mut O) -> Put
         ensures answer { result ≡ (buffered_of self.new).put }
         ensures put { HasPut [] (buffered_of self.old) (buffered_of self.new) (O.seen out.old) (O.seen out.new) }
         ensures empty { (buffered_of self.new).held ≡ [] }
     {
-        if self.put == Put::Done && !self.held.is_empty() {
-            self.put = out.put(self.held.as_slice());
-        }
+        self.put = self.write_held(out);
         self.held.clear();
         self.put
+    }
+
+    /// Writes what is held, where there is any and no write failed before. The answer is that of the last write.
+    #[tactic(auto, using(crate::proofs::Putting::writes_nothing, crate::proofs::Putting::stays_failed, crate::proofs::Putting::writes_all))]
+    fn write_held<O: Out>(&self, out: &mut O) -> Put
+        ensures { WritesHeld (buffered_of self.now) (O.seen out.old) (O.seen out.new) result }
+    {
+        if self.held.is_empty() {
+            return self.put;
+        }
+        match self.put {
+            Put::Done => out.put(self.held.as_slice()),
+            Put::Failed => Put::Failed,
+        }
     }
 
     /// Puts bytes behind what is held.
@@ -65,6 +78,7 @@ impl LineBuffer {
     }
 
     /// Puts a byte behind what is held.
+    #[tactic(auto, using(crate::proofs::Putting::put_after_room))]
     fn push_byte<O: Out>(&mut self, out: &mut O, byte: u8)
         ensures { HasPut (byte ∷ []) (buffered_of self.old) (buffered_of self.new) (O.seen out.old) (O.seen out.new) }
     {
@@ -73,6 +87,7 @@ impl LineBuffer {
     }
 
     /// Makes room for a byte: what is held is written where the buffer is full.
+    #[tactic(auto, using(crate::proofs::Putting::put_none))]
     fn make_room<O: Out>(&mut self, out: &mut O)
         ensures put { HasPut [] (buffered_of self.old) (buffered_of self.new) (O.seen out.old) (O.seen out.new) }
         ensures room { length (buffered_of self.new).held < PIECE_BYTES }
@@ -83,6 +98,7 @@ impl LineBuffer {
     }
 
     /// Keeps a byte, unless a write failed before.
+    #[tactic(auto, using(crate::proofs::Putting::keeps_byte, crate::proofs::Putting::keeps_none))]
     fn keep(&mut self, byte: u8)
         requires { length (buffered_of self.old).held < PIECE_BYTES }
         ensures { (out : OutSeen) → HasPut (byte ∷ []) (buffered_of self.old) (buffered_of self.new) out out }

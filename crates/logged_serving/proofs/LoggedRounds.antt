@@ -355,3 +355,8 @@ logs_shown out out_now shown logged.Spent (step_unwritten first e step middle is
 logs_shown out out_now shown logged.Unwritten (step_unwritten first e step middle is whole quiet before failed) =
     subst (λ (x : List Shown). OutShows out out_now put.Failed (log_from 0 x)) (sym whole)
     (subst (λ (x : List ℕ). OutShows out out_now put.Failed x) (sym (log_more 0 first e step)) (out_then out middle out_now put.Failed (log_from 0 first) (log_from e.event.moment (shown_of step)) before failed))
+
+-- a write that didn't fail was done
+pub well_written : (p : Put) → ¬ (p ≡ put.Failed) → p ≡ put.Done
+well_written put.Done isnt = refl
+well_written put.Failed isnt = absurd (isnt refl)

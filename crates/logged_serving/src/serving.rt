@@ -67,12 +67,14 @@ pub fn serve_logged<N: Net, R: Handlers, O: Out>(
             Next::Got(event) => {
                 let size = event.what.byte_count();
                 servient.step(net, rack, &event, &buffer[..size]);
-                let turns = StepTurns {
+                let after = servient.turns();
+                let step = StepTurns {
                     moment: event.moment,
                     first,
-                    after: servient.turns(),
+                    after,
                 };
-                if log.write_turns(out, rack, turns) == Put::Failed {
+                let put = log.write_turns(out, rack, step);
+                if put == Put::Failed {
                     return LoggedEnd::Unwritten;
                 }
                 if let What::Stop = event.what {

@@ -200,3 +200,17 @@ as_many_counts (h ∷ slots) = ap (λ (n : ℕ). suc n) (as_many_counts slots)
 pub counted_kept : (slots : List Seen) → HaveKept (counts_of slots) slots
 counted_kept [] = tt
 counted_kept (h ∷ slots) = (omega arith, counted_kept slots)
+
+-- all are made none
+pub all_none : (n : ℕ) (counts : List ℕ) → n ≡ length counts → replicate n 0 ++ drop n counts ≡ replicate (length counts) 0
+all_none n counts all =
+    ap (λ (k : ℕ). replicate k 0 ++ drop k counts) all ∙ ap (λ (x : List ℕ). replicate (length counts) 0 ++ x) (nothing_left counts) ∙ append-nil (replicate (length counts) 0)
+  where
+    nothing_left : (xs : List ℕ) → drop (length xs) xs ≡ []
+    nothing_left [] = refl
+    nothing_left (x ∷ xs) = nothing_left xs
+
+-- the handlers forgot, and so nothing of theirs is counted
+pub forgot_counts : (slots after : List Seen) (counts later : List ℕ) → counts ≡ counts_of slots → after ≡ map forgotten slots → later ≡ replicate (length counts) 0 → later ≡ counts_of after
+forgot_counts slots after counts later counted forgot_all none =
+    none ∙ ap (λ (n : ℕ). replicate n 0) (ap (λ (ns : List ℕ). length ns) counted ∙ as_many_counts slots) ∙ sym (none_counted slots) ∙ ap counts_of (sym forgot_all)

@@ -1,8 +1,8 @@
 //! A buffer before an output, which is written when it is full and when its owner says so.
 
 ghost use Rattle.std.specs.Prelude.{◌≡◌, ◌≤◌, ◌<◌, [], ◌∷◌, IfOk, length, vec_len, vec_capacity};
-ghost use Rattle.turn_lines.specs.Buffer.{buffered_of, HasPut, WritesHeld, nothing_held};
 ghost use Rattle.servient_outside.specs.Out.{OutSeen};
+ghost use Rattle.turn_lines.specs.declared.buffer.TheConstants.{PIECE_BYTES};
 
 use itoa::{Buffer, Integer};
 use servient_base::NoMemory;
@@ -23,6 +23,8 @@ pub struct LineBuffer {
 }
 
 impl LineBuffer {
+    ghost use Rattle.turn_lines.specs.Buffer.{buffered_of, HasPut, WritesHeld, nothing_held};
+
     /// A buffer that holds nothing. It takes all its memory here.
     pub fn new(alloc: Global) -> Result<LineBuffer, NoMemory>
         ensures { IfOk result (λ b. buffered_of b ≡ nothing_held) }
@@ -35,7 +37,6 @@ impl LineBuffer {
     }
 
     /// Writes what is held, where there is any, and says whether all writes so far were done.
-    #[tactic(auto, using(crate::proofs::Putting::flushed))]
     pub fn flush<O: Out>(&mut self, out: &mut O) -> Put
         ensures answer { result ≡ (buffered_of self.new).put }
         ensures put { HasPut [] (buffered_of self.old) (buffered_of self.new) (O.seen out.old) (O.seen out.new) }
@@ -78,7 +79,6 @@ impl LineBuffer {
     }
 
     /// Puts a byte behind what is held.
-    #[tactic(auto, using(crate::proofs::Putting::put_after_room))]
     fn push_byte<O: Out>(&mut self, out: &mut O, byte: u8)
         ensures { HasPut (byte ∷ []) (buffered_of self.old) (buffered_of self.new) (O.seen out.old) (O.seen out.new) }
     {
@@ -87,7 +87,6 @@ impl LineBuffer {
     }
 
     /// Makes room for a byte: what is held is written where the buffer is full.
-    #[tactic(auto, using(crate::proofs::Putting::put_none))]
     fn make_room<O: Out>(&mut self, out: &mut O)
         ensures put { HasPut [] (buffered_of self.old) (buffered_of self.new) (O.seen out.old) (O.seen out.new) }
         ensures room { length (buffered_of self.new).held < PIECE_BYTES }
@@ -98,7 +97,6 @@ impl LineBuffer {
     }
 
     /// Keeps a byte, unless a write failed before.
-    #[tactic(auto, using(crate::proofs::Putting::keeps_byte, crate::proofs::Putting::keeps_none))]
     fn keep(&mut self, byte: u8)
         requires { length (buffered_of self.old).held < PIECE_BYTES }
         ensures { (out : OutSeen) → HasPut (byte ∷ []) (buffered_of self.old) (buffered_of self.new) out out }

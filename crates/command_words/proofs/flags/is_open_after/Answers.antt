@@ -1,4 +1,3 @@
-use Rattle.std.proofs.Common.{refl}
 use Rattle.command_words.proofs.FlagLaws.{open_step}
 use Rattle.command_words.proofs.flags.is_open_after.Goals as goal
 

@@ -23,3 +23,9 @@ returns-in-12 g c = put_same _ _ (ap escaped_byte c.in-12.is) c.push-in-12.ensur
 
 pub returns-in-13 : goal.returns-in-13
 returns-in-13 g c = put_same _ _ (ap escaped_byte c.in-13.is) c.push-in-13.ensures
+
+pub returns-in_default : goal.returns-in_default
+returns-in_default g c = put_same _ _ (search rules) c.push-in_default.ensures
+
+pub returns-in-0-to-31 : goal.returns-in-0-to-31
+returns-in-0-to-31 g c = put_same _ _ (search rules) c.push-in-0-to-31.ensures

@@ -73,9 +73,9 @@ pub fn serve_logged<N: Net, R: Handlers, O: Out>(
                     first,
                     after,
                 };
-                let put = log.write_turns(out, rack, step);
-                if put == Put::Failed {
-                    return LoggedEnd::Unwritten;
+                match log.write_turns(out, rack, step) {
+                    Put::Failed => return LoggedEnd::Unwritten,
+                    Put::Done => {}
                 }
                 if let What::Stop = event.what {
                     return LoggedEnd::Stopped;

@@ -101,8 +101,9 @@ impl LineBuffer {
         requires { length (buffered_of self.old).held < PIECE_BYTES }
         ensures { (out : OutSeen) → HasPut (byte ∷ []) (buffered_of self.old) (buffered_of self.new) out out }
     {
-        if self.put == Put::Done {
-            self.held.push_reserved(byte);
+        match self.put {
+            Put::Done => self.held.push_reserved(byte),
+            Put::Failed => {}
         }
     }
 }

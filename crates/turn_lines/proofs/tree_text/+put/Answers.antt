@@ -1,4 +1,4 @@
-use Rattle.std.proofs.Common.{◌∙◌, ℕ, List, [], ◌∷◌, refl, sym, ap, arith}
+use Rattle.std.proofs.Common.{rules, Bool, ◌∙◌, ℕ, List, [], ◌∷◌, refl, sym, ap, arith}
 use Rattle.std.specs.List.{flat_map}
 use Rattle.std.proofs.lemmas.List.{take_all, nil_from_length}
 use Rattle.wot_json.specs.declared.tree.Tree.{Tree}
@@ -19,13 +19,13 @@ pub put_tree-returns-in-Null : goal.put_tree-returns-in-Null
 put_tree-returns-in-Null t g c = put_same _ _ (ap json_text c.in-Null.is) c.push.ensures
 
 pub put_tree-returns-in-Bool-true : goal.put_tree-returns-in-Bool-true
-put_tree-returns-in-Bool-true t g c = put_same _ _ (ap json_text c.in-Bool-true.is) c.push-in-Bool-true.ensures
+put_tree-returns-in-Bool-true t g c = put_same _ _ (ap json_text c.in-Bool-true.is ∙ search rules) c.push-in-Bool-true.ensures
 
 pub put_tree-returns-in-Bool-false : goal.put_tree-returns-in-Bool-false
-put_tree-returns-in-Bool-false t g c = put_same _ _ (ap json_text c.in-Bool-false.is) c.push-in-Bool-false.ensures
+put_tree-returns-in-Bool-false t g c = put_same _ _ (ap json_text c.in-Bool-false.is ∙ search rules) c.push-in-Bool-false.ensures
 
 pub put_tree-returns-in-Int : goal.put_tree-returns-in-Int
-put_tree-returns-in-Int t g c = put_same _ _ (ap json_text c.in-Int.is) c.push_number.ensures
+put_tree-returns-in-Int t g c = put_same _ _ (search rules) c.push_number.ensures
 
 pub put_tree-returns-in-Text : goal.put_tree-returns-in-Text
 put_tree-returns-in-Text t g c = put_same _ _ (ap json_text c.in-Text.is ∙ ap json_string (sym (c.as_bytes.ensures.value ∙ c.as_str.ensures))) c.put_string.ensures
@@ -53,7 +53,7 @@ put_members-returns-in-Some t g c =
     (put_four _ _ _ _ c.push-in-Some.ensures c.put_field.ensures c.put_further_fields.ensures c.push-in-Some-2.ensures)
 
 pub put_further_elements-loop-item-init : goal.put_further_elements-loop-item-init
-put_further_elements-loop-item-init t g c = put_none (buffered_of c.args.lines.now) (g.O.Out.seen c.args.out.now)
+put_further_elements-loop-item-init t g c = put_none (buffered_of c.args.lines.now) (t.O.Out.seen c.args.out.now)
 
 pub put_further_elements-loop-item-preserved : goal.put_further_elements-loop-item-preserved
 put_further_elements-loop-item-preserved t g c =
@@ -63,7 +63,7 @@ pub put_further_elements-returns : goal.put_further_elements-returns
 put_further_elements-returns t g c = put_same _ _ (ap (flat_map further_element) (sym (take_all c.loop-item.item-index c.args.items.now (omega (arith, c.loop-item-test.false))))) c.loop-item.invariant
 
 pub put_further_fields-loop-name-init : goal.put_further_fields-loop-name-init
-put_further_fields-loop-name-init t g c = put_none (buffered_of c.args.lines.now) (g.O.Out.seen c.args.out.now)
+put_further_fields-loop-name-init t g c = put_none (buffered_of c.args.lines.now) (t.O.Out.seen c.args.out.now)
 
 pub put_further_fields-loop-name-preserved : goal.put_further_fields-loop-name-preserved
 put_further_fields-loop-name-preserved t g c =
@@ -75,9 +75,9 @@ put_further_fields-returns t g c = put_same _ _ (ap (flat_map further_field) (sy
 pub put_further_elements-put_tree-requires : goal.put_further_elements-put_tree-requires
 put_further_elements-put_tree-requires t g c =
     let nests = element_nests c.args.items.now c.loop-item.item-index c.item-item.result c.loop-item-test.true in
-    (omega (arith, nests, ap (λ (x : Tree). nesting (json_of x)) c.item-item.is), tt)
+    λ κs lives. (omega (arith, nests, ap (λ (x : Tree). nesting (json_of x)) c.item-item.is), lives)
 
 pub put_further_fields-put_field-requires : goal.put_further_fields-put_field-requires
 put_further_fields-put_field-requires t g c =
     let nests = member_nests c.args.fields.now c.loop-name.name-index c.loop-name-item.result c.loop-name-test.true in
-    (omega (arith, nests, ap (λ (x : List ℕ × Tree). nesting (json_of x.1)) c.loop-name-item.is), tt)
+    λ κs lives. (omega (arith, nests, ap (λ (x : List ℕ × Tree). nesting (json_of x.1)) c.loop-name-item.is), lives)

@@ -1,4 +1,4 @@
-use Rattle.std.proofs.Common.{ℕ, ap, refl}
+use Rattle.std.proofs.Common.{rules, ℕ, ap, refl}
 use Rattle.wot_json.specs.Json.{escaped_byte}
 use Rattle.turn_lines.proofs.Putting.{put_same}
 use Rattle.turn_lines.proofs.tree_text.put_escaped.Goals as goal

@@ -1,4 +1,4 @@
-use Rattle.std.proofs.Common.{◌≡◌, ◌∙◌, List, sym, ap, arith, subst, true, false, absurd}
+use Rattle.std.proofs.Common.{◌≡◌, ◌∙◌, List, sym, ap, arith, subst, true, false}
 use Rattle.servient_script.specs.Merging.{begins_with, turns_after}
 use Rattle.servient_script.proofs.MergeLaws.{as_long, kept_at}
 use Rattle.thing_handler.specs.declared.handler.Turn.{Turn}

@@ -4,6 +4,7 @@ use Rattle.std.specs.Prelude.{Option, Some, None, nat_lt, slice_get, IfSome}
 use Rattle.std.specs.List.{position, position_or_len, flat_map}
 use Rattle.std.proofs.lemmas.Bool.{lt-ltb}
 use Rattle.std.proofs.lemmas.List.{append-nil}
+use Rattle.std.proofs.Math.Seq.{take-append_seam}
 use Rattle.std.proofs.lemmas.List.Sums.{position_or_len_is}
 use Rattle.std.proofs.lemmas.Grind.{flat_map-append}
 use Rattle.thing_handler.specs.declared.handler.Turn.{Turn}
@@ -214,3 +215,14 @@ all_none n counts all =
 pub forgot_counts : (slots after : List Seen) (counts later : List ℕ) → counts ≡ counts_of slots → after ≡ map forgotten slots → later ≡ replicate (length counts) 0 → later ≡ counts_of after
 forgot_counts slots after counts later counted forgot_all none =
     none ∙ ap (λ (n : ℕ). replicate n 0) (ap (λ (ns : List ℕ). length ns) counted ∙ as_many_counts slots) ∙ sym (none_counted slots) ∙ ap counts_of (sym forgot_all)
+
+-- a list that was lent, and made none
+pub lent_none : (old lent new : List ℕ) (len : ℕ) → new ≡ replicate (length lent) 0 → lent ≡ old → length lent ≡ len → take len (new ++ drop (length new) old) ≡ replicate (length old) 0
+lent_none old lent new len none same long =
+    let all : new ≡ replicate (length old) 0 = none ∙ ap (λ (xs : List ℕ). replicate (length xs) 0) same in
+    let as_long : length new ≡ length lent = ap (λ (xs : List ℕ). length xs) none ∙ length_of (length lent) in
+    ap (λ (k : ℕ). take k (new ++ drop (length new) old)) (sym long ∙ sym as_long) ∙ take-append_seam new (drop (length new) old) ∙ all
+  where
+    length_of : (n : ℕ) → length (replicate n 0) ≡ n
+    length_of zero = refl
+    length_of (suc n) = ap (λ (m : ℕ). suc m) (length_of n)

@@ -223,6 +223,6 @@ lent_none old lent new len none same long =
     let as_long : length new ≡ length lent = ap (λ (xs : List ℕ). length xs) none ∙ length_of (length lent) in
     ap (λ (k : ℕ). take k (new ++ drop (length new) old)) (sym long ∙ sym as_long) ∙ take-append_seam new (drop (length new) old) ∙ all
   where
-    length_of : (n : ℕ) → length (replicate n 0) ≡ n
+    length_of : (n : ℕ) → length {A = ℕ} (replicate n 0) ≡ n
     length_of zero = refl
     length_of (suc n) = ap (λ (m : ℕ). suc m) (length_of n)

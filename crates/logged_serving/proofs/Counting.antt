@@ -3,7 +3,7 @@ use Rattle.std.proofs.Common.{◌≡◌, ◌≢◌, ◌∙◌, ℕ, zero, suc, �
 use Rattle.std.specs.Prelude.{Option, Some, None, nat_lt, slice_get, IfSome}
 use Rattle.std.specs.List.{position, position_or_len, flat_map}
 use Rattle.std.proofs.lemmas.Bool.{lt-ltb}
-use Rattle.std.proofs.lemmas.List.{append-nil}
+use Rattle.std.proofs.lemmas.List.{append-nil, drop-drop}
 use Rattle.std.proofs.Math.Seq.{take-append_seam}
 use Rattle.std.proofs.lemmas.List.Sums.{position_or_len_is}
 use Rattle.std.proofs.lemmas.Grind.{flat_map-append}
@@ -13,7 +13,7 @@ use Rattle.thing_handler.specs.Turns.{RunTurn, kept_turn, turns_of_slot}
 use Rattle.servient_outside.specs.Out.{OutSeen}
 use Rattle.servient_script.specs.Print.{in_slot}
 use Rattle.servient_script.specs.Merging.{AreSplit, IsMerged, begins_with, counts_of, turns_after, HaveKept}
-use Rattle.servient_script.proofs.MergeLaws.{next_of, none_left, as_long}
+use Rattle.servient_script.proofs.MergeLaws.{next_of, none_left, has_turn}
 use Rattle.turn_lines.specs.Buffer.{Buffered, HasPut}
 use Rattle.turn_lines.specs.Lines.{logged_turn}
 use Rattle.turn_lines.proofs.Putting.{put_then}
@@ -121,6 +121,36 @@ never_none number by_slot t more merged none = some_is_left t more (none_left nu
   where
     some_is_left : (t : RunTurn) (ts : List RunTurn) → t ∷ ts ≡ [] → ⊥
     some_is_left t ts e = cc
+
+-- the slot that was found, in the counts themselves
+pub found_in : (number slot : ℕ) (counts lent : List ℕ) (slots : List Seen) → HaveKept counts slots → lent ≡ counts → position (begins_with number) (turns_after lent slots) ≡ Some slot
+    → (slot < length counts) × (position (begins_with number) (turns_after counts slots) ≡ Some slot)
+found_in number slot counts lent slots have same found =
+    let at : position (begins_with number) (turns_after counts slots) ≡ Some slot = subst (λ (xs : List ℕ). position (begins_with number) (turns_after xs slots) ≡ Some slot) same found in
+    (omega (arith, (has_turn number slot (turns_after counts slots) at).0, as_many_after counts slots have), at)
+
+-- that slot has a turn more
+pub has_next : (number slot count : ℕ) (counts : List ℕ) (slots : List Seen) (kept later : List Turn) → HaveKept counts slots → slot < length counts → position (begins_with number) (turns_after counts slots) ≡ Some slot
+    → IfSome (slice_get slots slot) (λ h. kept ≡ h.turns) → count ≡ get_or counts slot 0 → later ≡ drop count kept → later ≡ [] → ⊥
+has_next number slot count counts slots kept later have within found at counted of_later none =
+    (has_turn number slot (turns_after counts slots) found).1 []
+    (later_at counts slots slot 0 kept have within at ∙ ap (λ (n : ℕ). drop n kept) (sym counted) ∙ sym of_later ∙ none)
+
+-- that turn is counted, and those after it are left
+pub counts_next : (slot count : ℕ) (counts : List ℕ) (slots : List Seen) (kept later left : List Turn) (turn : Turn) → HaveKept counts slots → slot < length counts
+    → IfSome (slice_get slots slot) (λ h. kept ≡ h.turns) → length later + count ≡ length kept → later ≡ turn ∷ left → HaveKept (set counts slot (count + 1)) slots
+counts_next slot count counts slots kept later left turn have within at long is =
+    kept_set counts slots slot (count + 1) kept have within at (omega (arith, long, ap (λ (ts : List Turn). length ts) is))
+
+pub takes_next : (number slot count : ℕ) (counts : List ℕ) (slots : List Seen) (kept later left : List Turn) (turn : Turn) (t : RunTurn) (more : List RunTurn) → HaveKept counts slots → slot < length counts
+    → position (begins_with number) (turns_after counts slots) ≡ Some slot → IfSome (slice_get slots slot) (λ h. kept ≡ h.turns) → count ≡ get_or counts slot 0 → later ≡ drop count kept → later ≡ turn ∷ left
+    → IsMerged number (turns_after counts slots) (t ∷ more) → (in_slot slot turn ≡ t) × IsMerged (number + 1) (turns_after (set counts slot (count + 1)) slots) more
+takes_next number slot count counts slots kept later left turn t more have within found at counted of_later is merged =
+    let has : get_or (turns_after counts slots) slot [] ≡ turn ∷ left =
+    later_at counts slots slot 0 kept have within at ∙ ap (λ (n : ℕ). drop n kept) (sym counted) ∙ sym of_later ∙ is in
+    let next = next_is number slot (turns_after counts slots) t more turn left merged found has in
+    let rest : drop (count + 1) kept ≡ left = sym (drop-drop 1 count kept) ∙ ap (λ (ts : List Turn). drop 1 ts) (sym of_later ∙ is) in
+    (next.0, subst (λ (ls : List (List Turn)). IsMerged (number + 1) ls more) (sym (after_set counts slots slot 0 (count + 1) kept left have within at rest)) next.1)
 
 -- ---- all of a step
 

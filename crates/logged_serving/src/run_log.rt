@@ -112,7 +112,10 @@ impl RunLog {
             return;
         };
         let count = self.written[slot];
-        let turn = &rack.turns(slot)[count];
+        let (_, later) = rack.turns(slot).split_at(count);
+        let Some((turn, _)) = later.split_first() else {
+            return;
+        };
         put_line(&mut self.lines, out, LoggedTurn { moment, slot, turn });
         self.written[slot] = count + 1;
     }

@@ -109,8 +109,8 @@ command_well held kinds words seen o fine quiet (is_command command meaning does
 command_well held kinds words seen o fine quiet (words_memory out) = inl (inr out.1)
 
 -- the end of stages, and the report of it
-pub stages_reported : (P : List Deed → Outcome (Unit {0}) → Type 0) (before now : Around) (out out_now : OutSeen) (r : Result Ending Ended) (result : ℕ) → EndsBy P before now r → IsReported (final_status r) (final_text r) out out_now result → NoWriteFailed out out_now (final_text r) → EndsAndReports P before now out out_now result
-stages_reported P before now out out_now r result ended reported fits =
+pub stages_reported : (logs : Bool) (P : List Deed → Outcome (Unit {0}) → Type 0) (before now : Around) (out out_now : OutSeen) (r : Result Ending Ended) (result : ℕ) → logs ≡ false → EndsBy P before now r → IsReported (final_status r) (final_text r) out out_now result → NoWriteFailed out out_now (final_text r) → EndsAndReports logs P before now out out_now result
+stages_reported logs P before now out out_now r result none ended reported fits =
     let comes = ends_so P before now r ended in
     record {
       seen = comes.seen;
@@ -119,17 +119,33 @@ stages_reported P before now out out_now r result ended reported fits =
       shows = comes.shows;
       reported = subst (λ (t : List ℕ). IsReported (final_status r) t out out_now result) (sym comes.text_is) reported;
       no_failure = subst (λ (t : List ℕ). NoWriteFailed out out_now t) (sym comes.text_is) fits;
+      in_turn = λ is. absurd (not_both logs none is);
     }
+  where
+    not_both : (b : Bool) → b ≡ false → b ≡ true → ⊥
+    not_both false is isnt = cc
+    not_both true is isnt = cc
 
 -- the whole call, from what was done with its command
-pub command_ends : (words : List (List ℕ)) (before now : Around) (out out_now : OutSeen) (command : Command) (result : ℕ) → meaning_of words ≡ Some command → EndsAndReports (Does before.files.held (kinds_of before.outside.slots) command) before now out out_now result → Ends words before now out out_now result
-command_ends words before now out out_now command result meaning e = record { seen = e.seen; status = e.status; stage = is_command command meaning e.stage; shows = e.shows; reported = e.reported; no_failure = e.no_failure }
+pub command_ends : (words : List (List ℕ)) (before now : Around) (out out_now : OutSeen) (command : Command) (result : ℕ) → meaning_of words ≡ Some command → EndsAndReports (is_logging (Some command)) (Does before.files.held (kinds_of before.outside.slots) command) before now out out_now result → Ends words before now out out_now result
+command_ends words before now out out_now command result meaning e = record { seen = e.seen; status = e.status; stage = is_command command meaning e.stage; shows = e.shows; reported = e.reported; no_failure = e.no_failure; in_turn = λ is. e.in_turn (ap is_logging (sym meaning) ∙ is) }
+
+logs_not : (command : Command) → is_writing (Some command) ≡ false → is_logging (Some command) ≡ false
+logs_not (Replay script plan events) is = refl
+logs_not (Serve plan budget idle) is = refl
+logs_not (ServeLogged plan budget idle) is = absurd cc
+logs_not (Check description) is = refl
+logs_not (Derive plan) is = refl
+logs_not (Table plan) is = refl
+logs_not (Storm seed events) is = refl
+logs_not (Consume consumption) is = refl
+logs_not (Discover host port) is = refl
 
 -- of a command that writes at its end alone
-pub built_ends : (words : List (List ℕ)) (before now : Around) (out out_now : OutSeen) (command : Command) (r : Result Ending Ended) (result : ℕ) → meaning_of words ≡ Some command → EndsBy (Does before.files.held (kinds_of before.outside.slots) command) before now r → IsReported (final_status r) (final_text r) out out_now result
+pub built_ends : (words : List (List ℕ)) (before now : Around) (out out_now : OutSeen) (command : Command) (r : Result Ending Ended) (result : ℕ) → meaning_of words ≡ Some command → is_writing (Some command) ≡ false → EndsBy (Does before.files.held (kinds_of before.outside.slots) command) before now r → IsReported (final_status r) (final_text r) out out_now result
     → NoWriteFailed out out_now (final_text r) → Ends words before now out out_now result
-built_ends words before now out out_now command r result meaning ended reported fits =
-    command_ends words before now out out_now command result meaning (stages_reported (Does before.files.held (kinds_of before.outside.slots) command) before now out out_now r result ended reported fits)
+built_ends words before now out out_now command r result meaning other ended reported fits =
+    command_ends words before now out out_now command result meaning (stages_reported (is_logging (Some command)) (Does before.files.held (kinds_of before.outside.slots) command) before now out out_now r result (logs_not command other) ended reported fits)
 
 writing_networked : (command : Command) → is_writing (Some command) ≡ true → is_networked (Some command) ≡ true
 writing_networked (Replay script plan events) is = absurd cc
@@ -172,6 +188,8 @@ refusal_ends words a out out_now Usage e result refused ends_as reported fits = 
   shows = shows_wrote a usage_line;
   reported = subst (λ (t : List ℕ). IsReported 2 t out out_now result) (sym (line_alone usage_line)) (subst (λ (x : Ended). IsReported (status_of x) (text_of x) out out_now result) ends_as reported);
   no_failure = subst (λ (t : List ℕ). NoWriteFailed out out_now t) (sym (line_alone usage_line)) (subst (λ (x : Ended). NoWriteFailed out out_now (text_of x)) ends_as fits);
+  in_turn = λ is. turn_reported (did_write usage_line ∷ []) usage_line 2 put.Done out out out_now result (line_in_turn out usage_line) (λ fails. absurd cc) (λ seven. absurd (omega (arith, seven)))
+      (subst (λ (x : Ended). IsReported (status_of x) (text_of x) out out_now result) ends_as reported);
 }
 refusal_ends words a out out_now NoMemory e result refused ends_as reported fits = record {
   seen = did_write memory_line ∷ [];
@@ -180,6 +198,8 @@ refusal_ends words a out out_now NoMemory e result refused ends_as reported fits
   shows = shows_wrote a memory_line;
   reported = subst (λ (t : List ℕ). IsReported 9 t out out_now result) (sym (line_alone memory_line)) (subst (λ (x : Ended). IsReported (status_of x) (text_of x) out out_now result) ends_as reported);
   no_failure = subst (λ (t : List ℕ). NoWriteFailed out out_now t) (sym (line_alone memory_line)) (subst (λ (x : Ended). NoWriteFailed out out_now (text_of x)) ends_as fits);
+  in_turn = λ is. turn_reported (did_write memory_line ∷ []) memory_line 9 put.Done out out out_now result (line_in_turn out memory_line) (λ fails. absurd cc) (λ seven. absurd (omega (arith, seven)))
+      (subst (λ (x : Ended). IsReported (status_of x) (text_of x) out out_now result) ends_as reported);
 }
 
 pub refusal_is : (words : List (List ℕ)) (fault : WordsFault) → Reads {A = Command} (meaning_of words) (Err fault) → fault ≡ Usage → meaning_of words ≡ None

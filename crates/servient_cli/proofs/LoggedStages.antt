@@ -10,16 +10,18 @@ use Rattle.thing_site.specs.Site.{expose_faults, exposed_all}
 use Rattle.thing_handler.specs.Turns.{answered, missed}
 use Rattle.servient_outside.specs.declared.files.FileRead.{FileRead}
 use Rattle.servient_outside.specs.declared.files.HeldFile.{HeldFile}
+use Rattle.servient_outside.specs.declared.net.EventWithBytes.{EventWithBytes}
 use Rattle.servient_outside.specs.declared.out.Put.{Put}
 use Rattle.servient_outside.specs.declared.out.Put.TheVariants as put
 use Rattle.servient_outside.specs.Files.{FilesSeen}
-use Rattle.servient_outside.specs.Network.{heard, did, broke, next_event}
+use Rattle.servient_outside.specs.Network.{heard, did, broke, next_event, events_in}
 use Rattle.servient_outside.specs.Out.{OutSeen, OutShows}
 use Rattle.servient_outside.specs.Told.{Continues}
 use Rattle.servient_outside.proofs.FilesLaws.{no_read_failed_same}
-use Rattle.servient_outside.proofs.ToldLaws.{continues_same}
-use Rattle.servient_trace.specs.Trace.{Sighting, at_network, at_handler, Outside}
-use Rattle.servient_trace.specs.ShownSections.{Shown, saw, forgot, seen_in, ShowsInSections}
+use Rattle.servient_outside.proofs.ToldLaws.{continues_same, continues_then}
+use Rattle.servient_trace.specs.Trace.{Sighting, at_network, at_handler, happened_in, Outside}
+use Rattle.servient_trace.specs.ShownSections.{Shown, saw, forgot, seen_in, shown_of, ShowsInSections}
+use Rattle.servient_trace.proofs.ShownLaws.{seen_of_shown}
 use Rattle.servient_core.specs.Machine.{Site, State, start}
 use Rattle.servient_core.specs.Serving.{StandsFor}
 use Rattle.servient_core.specs.declared.layers.Layers.{Layers}
@@ -31,21 +33,20 @@ use Rattle.turn_lines.specs.Lines.{logged_turn, serving_line}
 use Rattle.turn_lines.proofs.Putting.{out_then}
 use Rattle.logged_serving.specs.declared.serving.LoggedEnd.{LoggedEnd}
 use Rattle.logged_serving.specs.declared.serving.LoggedEnd.TheVariants as logged
-use Rattle.logged_serving.specs.Logging.{log_from, RunsLogged, ServesLogged, answer_of}
+use Rattle.logged_serving.specs.Logging.{log_from, all_written, step_unwritten, Logs, RunsLogged, ServesLogged, answer_of}
 use Rattle.logged_serving.proofs.LoggedRounds.{logs_shown}
 use Rattle.command_stages.specs.declared.derivation.Planned.{Planned}
 use Rattle.command_stages.specs.declared.ending.Ending.{Ending}
 use Rattle.command_stages.specs.declared.ending.Ended.{Ended}
 use Rattle.command_stages.specs.Lines.{network_line}
-use Rattle.command_stages.specs.Stages.{Deed, did_see, did_write, sees, HasFailed, reads_in, showings_in, sighting_in, sightings_in, text_in, written_in, Outcome, goes_on, ends, AndThen, Around, around, ShowsDeeds}
+use Rattle.command_stages.specs.Stages.{Deed, did_see, did_forget, did_write, sees, HasFailed, reads_in, showings_in, sighting_in, sightings_in, text_in, written_in, Outcome, goes_on, ends, AndThen, Around, around, ShowsDeeds}
 use Rattle.command_stages.specs.Ending.{final_status, final_text}
 use Rattle.command_stages.specs.Deriving.{ReadsPlanned, derived_of}
 use Rattle.command_stages.proofs.StageLaws.{line_alone, seen_among, shows_then, shows_wrote}
 use Rattle.command_stages.proofs.FaultlessReading.{GoesOn, HasTrouble, trouble_before, trouble_after, then_well}
 use Rattle.servient_cli.specs.Opening.{Opens}
 use Rattle.servient_cli.specs.Listening.{Listens}
-use Rattle.servient_cli.specs.LoggedServing.{writes, call_line, with_log, status_at_log_end, line_at_log_end, bounds_of, heading_of, TakesLog, log_taken, log_memory, ServesWithLog, heading_unwritten, has_logged, ListensAndLogs, LogsPlanned, LogsPlan}
-use Rattle.servient_cli.specs.Consuming.{ComesOutPrinting, EndsPrinting}
+use Rattle.servient_cli.specs.LoggedServing.{writes, call_line, with_log, status_at_log_end, line_at_log_end, bounds_of, heading_of, ComesOutInTurn, EndsInTurn, IsInTurn, TakesLog, log_taken, log_memory, ServesWithLog, heading_unwritten, has_logged, ListensAndLogs, LogsPlanned, LogsPlan}
 use Rattle.servient_cli.specs.Command.{IsFaultlessServing}
 use Rattle.servient_cli.proofs.FaultlessStages.{planned_well, open_well}
 use Rattle.servient_cli.proofs.ServedStages.{IsServed, listen_well, sees-append}
@@ -104,10 +105,26 @@ text_logged moment owed (saw (at_handler (answered turn)) ∷ shown) = text_logg
 text_logged moment owed (saw (at_handler (missed slot)) ∷ shown) = text_logged moment (owed ++ []) shown ∙ ap (λ (x : List ℕ). x ++ log_from moment shown) (append-nil owed)
 
 -- and so of the run without its forgettings
+sightings_of_log : (moment : ℕ) (owed : List ℕ) (shown : List Shown) → sightings_in (with_log moment owed shown) ≡ seen_in shown
+sightings_of_log moment owed shown = sym (seen_among (with_log moment owed shown)) ∙ ap seen_in (showings_logged moment owed shown)
+
 pub sightings_logged : (heading line : List ℕ) (shown : List Shown) → sightings_in ((did_write heading ∷ with_log 0 [] shown) ++ did_write line ∷ []) ≡ seen_in shown
 sightings_logged heading line shown =
-    filter_map-append sighting_in (did_write heading ∷ with_log 0 [] shown) (did_write line ∷ []) ∙ append-nil (sightings_in (with_log 0 [] shown))
-    ∙ sym (seen_among (with_log 0 [] shown)) ∙ ap seen_in (showings_logged 0 [] shown)
+    filter_map-append sighting_in (did_write heading ∷ with_log 0 [] shown) (did_write line ∷ []) ∙ append-nil (sightings_in (with_log 0 [] shown)) ∙ sightings_of_log 0 [] shown
+
+-- before an event is heard all lines so far are written
+log_split : (moment : ℕ) (owed : List ℕ) (first : List Shown) (e : EventWithBytes) (rest : List Shown) → with_log moment owed (first ++ saw (at_network (heard e)) ∷ rest) ≡ with_log moment owed first ++ did_see (at_network (heard e)) ∷ with_log e.event.moment [] rest
+log_split moment owed [] e rest = refl
+log_split moment owed (forgot ∷ first) e rest =
+    ap (λ (x : List Deed). writes owed ++ did_forget ∷ x) (log_split moment [] first e rest) ∙ sym (append_assoc (writes owed) (did_forget ∷ with_log moment [] first) (did_see (at_network (heard e)) ∷ with_log e.event.moment [] rest))
+log_split moment owed (saw (at_network (heard other)) ∷ first) e rest =
+    ap (λ (x : List Deed). writes owed ++ did_see (at_network (heard other)) ∷ x) (log_split other.event.moment [] first e rest)
+    ∙ sym (append_assoc (writes owed) (did_see (at_network (heard other)) ∷ with_log other.event.moment [] first) (did_see (at_network (heard e)) ∷ with_log e.event.moment [] rest))
+log_split moment owed (saw (at_network (did act)) ∷ first) e rest = ap (λ (x : List Deed). did_see (at_network (did act)) ∷ x) (log_split moment owed first e rest)
+log_split moment owed (saw (at_network (broke call)) ∷ first) e rest =
+    ap (λ (x : List Deed). writes owed ++ did_see (at_network (broke call)) ∷ x) (log_split moment [] first e rest)
+    ∙ sym (append_assoc (writes owed) (did_see (at_network (broke call)) ∷ with_log moment [] first) (did_see (at_network (heard e)) ∷ with_log e.event.moment [] rest))
+log_split moment owed (saw (at_handler call) ∷ first) e rest = ap (λ (x : List Deed). did_see (at_handler call) ∷ x) (log_split moment (owed ++ call_line moment call) first e rest)
 
 shows_logged : (files : FilesSeen) (w v : Outside) (shown : List Shown) → ShowsInSections w v shown → ShowsDeeds (around files w) (around files v) (with_log 0 [] shown)
 shows_logged files w v shown shows = record {
@@ -133,26 +150,93 @@ unwritten_only logged.Spent seven = absurd (omega (arith, seven))
 unwritten_only logged.Unwritten seven = refl
 
 -- the serving line wasn't written
-pub heading_ends : (bounds : RunBounds) (plan : Plan) (site : Site) (a : Around) (out out_now : OutSeen) (line : List ℕ) (answer : Put) → OutShows out out_now answer line → line ≡ heading_of plan site → answer ≡ put.Failed → ComesOutPrinting (ServesWithLog bounds plan site) a a out out_now 7 []
+pub heading_ends : (bounds : RunBounds) (plan : Plan) (site : Site) (a : Around) (out out_now : OutSeen) (line : List ℕ) (answer : Put) → OutShows out out_now answer line → line ≡ heading_of plan site → answer ≡ put.Failed → ComesOutInTurn (ServesWithLog bounds plan site) a a out out_now 7 []
 heading_ends bounds plan site a out out_now line answer shows is failed =
     let heading = heading_of plan site in
+    let wrote : OutShows out out_now put.Failed heading = subst (λ (x : List ℕ). OutShows out out_now put.Failed x) is (subst (λ (p : Put). OutShows out out_now p line) failed shows) in
+    (
+      record {
+        seen = did_write heading ∷ did_write [] ∷ [];
+        stage = heading_unwritten (refl, refl);
+        shows = shows_then a a a (did_write heading ∷ []) (did_write [] ∷ []) (shows_wrote a heading) (shows_wrote a []);
+        printed = heading;
+        answer = put.Failed;
+        wrote = wrote;
+        text_is = refl;
+        failed = λ f. (refl, refl);
+        unprinted = λ seven. refl;
+      },
+      record {
+        first = [];
+        later = did_write heading ∷ did_write [] ∷ [];
+        whole = refl;
+        untaken = refl;
+        part = wrote.writes.0;
+        rest = wrote.writes.1;
+        text_is = append-nil heading ∙ wrote.writes.2;
+        wrote = wrote.writes.3;
+        left = λ done. absurd cc;
+      },
+    )
+
+-- Of the deeds of such a run and of its end, where all lines were written, and where those of the last step weren't.
+all_in_turn : (heading line : List ℕ) (shown : List Shown) (r : LoggedEnd) (out middle out_now : OutSeen) → OutShows out middle put.Done heading → OutShows middle out_now put.Done (log_from 0 shown)
+    → IsInTurn out out_now ((did_write heading ∷ with_log 0 [] shown) ++ did_write line ∷ []) line (answer_of r)
+all_in_turn heading line shown r out middle out_now one other =
+    let first = did_write heading ∷ with_log 0 [] shown in
     record {
-      seen = did_write heading ∷ did_write [] ∷ [];
-      stage = heading_unwritten (refl, refl);
-      shows = shows_then a a a (did_write heading ∷ []) (did_write [] ∷ []) (shows_wrote a heading) (shows_wrote a []);
-      printed = heading;
-      answer = put.Failed;
-      wrote = subst (λ (x : List ℕ). OutShows out out_now put.Failed x) is (subst (λ (p : Put). OutShows out out_now p line) failed shows);
-      text_is = refl;
-      failed = λ f. (refl, refl);
-      unprinted = λ seven. refl;
+      first = first;
+      later = did_write line ∷ [];
+      whole = refl;
+      untaken = refl;
+      part = [];
+      rest = line;
+      text_is = line_alone line;
+      wrote = subst (λ (x : List ℕ). Continues out.written out_now.written x) (ap (λ (x : List ℕ). heading ++ x) (sym (text_logged 0 [] shown)) ∙ sym (append-nil (text_in first)))
+          (continues_then out.written middle.written out_now.written heading (log_from 0 shown) one.writes other.writes);
+      left = λ done. refl;
     }
 
+step_in_turn : (heading line : List ℕ) (shown first : List Shown) (e : EventWithBytes) (step : List Sighting) (r : LoggedEnd) (out middle later out_now : OutSeen) → r ≡ logged.Unwritten → line ≡ line_at_log_end r → shown ≡ first ++ shown_of (at_network (heard e) ∷ step) → events_in (happened_in step) ≡ []
+    → OutShows out middle put.Done heading → OutShows middle later put.Done (log_from 0 first) → OutShows later out_now put.Failed (log_from e.event.moment (shown_of step))
+    → IsInTurn out out_now ((did_write heading ∷ with_log 0 [] shown) ++ did_write line ∷ []) line (answer_of r)
+step_in_turn heading line shown first e step r out middle later out_now unwritten line_is whole quiet one other last =
+    let before = with_log 0 [] first in
+    let hears = did_see (at_network (heard e)) in
+    let after = with_log e.event.moment [] (shown_of step) in
+    let end = did_write line ∷ [] in
+    let none : line ≡ [] = line_is ∙ ap line_at_log_end unwritten in
+    record {
+      first = did_write heading ∷ (before ++ hears ∷ []);
+      later = after ++ end;
+      whole = ap (λ (x : List Shown). (did_write heading ∷ with_log 0 [] x) ++ end) whole
+          ∙ ap (λ (x : List Deed). (did_write heading ∷ x) ++ end) (log_split 0 [] first e (shown_of step))
+          ∙ ap (λ (x : List Deed). did_write heading ∷ x) (append_assoc before (hears ∷ after) end ∙ sym (append_assoc before (hears ∷ []) (after ++ end)));
+      untaken = ap (λ (x : List Sighting). events_in (happened_in x))
+          (filter_map-append sighting_in after end ∙ append-nil (sightings_in after) ∙ sightings_of_log e.event.moment [] (shown_of step) ∙ seen_of_shown step)
+          ∙ quiet;
+      part = last.writes.0;
+      rest = last.writes.1;
+      text_is = flat_map-append written_in after end ∙ ap (λ (x : List ℕ). x ++ text_in end) (text_logged e.event.moment [] (shown_of step))
+          ∙ ap (λ (x : List ℕ). log_from e.event.moment (shown_of step) ++ x) (line_alone line ∙ none) ∙ append-nil (log_from e.event.moment (shown_of step)) ∙ last.writes.2;
+      wrote = subst (λ (x : List ℕ). Continues out.written out_now.written (x ++ last.writes.0))
+          (ap (λ (x : List ℕ). heading ++ x) (sym (flat_map-append written_in before (hears ∷ []) ∙ append-nil (text_in before) ∙ text_logged 0 [] first)))
+          (continues_then out.written later.written out_now.written (heading ++ log_from 0 first) last.writes.0
+          (continues_then out.written middle.written later.written heading (log_from 0 first) one.writes other.writes) last.writes.3);
+      left = λ done. let bad : put.Failed ≡ put.Done = ap answer_of (sym unwritten) ∙ done in absurd cc;
+    }
+
+logs_in_turn : (heading : List ℕ) (shown : List Shown) (r : LoggedEnd) (out middle out_now : OutSeen) → OutShows out middle put.Done heading → Logs middle out_now shown r
+    → IsInTurn out out_now ((did_write heading ∷ with_log 0 [] shown) ++ did_write (line_at_log_end r) ∷ []) (line_at_log_end r) (answer_of r)
+logs_in_turn heading shown r out middle out_now one (all_written isnt wrote) = all_in_turn heading (line_at_log_end r) shown r out middle out_now one wrote
+logs_in_turn heading shown r out middle out_now one (step_unwritten first e step later is whole quiet before failed) =
+    step_in_turn heading (line_at_log_end r) shown first e step r out middle later out_now is refl whole quiet one before failed
+
 -- it was, and then the events were served
-pub logged_ends : (bounds : RunBounds) (plan : Plan) (kept later : Layers) (files : FilesSeen) (w v : Outside) (out middle out_now : OutSeen) (line : List ℕ) (answer : Put) (result : LoggedEnd) → OutShows out middle answer line → line ≡ heading_of plan kept.exposed.site → ¬ (answer ≡ put.Failed)
+pub logged_ends : (bounds : RunBounds) (plan : Plan) (kept later : Layers) (files : FilesSeen) (w v : Outside) (out middle out_now : OutSeen) (line : List ℕ) (answer : Put) (result : LoggedEnd) → OutShows out middle answer line → line ≡ heading_of plan kept.exposed.site → answer ≡ put.Done
     → StandsFor kept (start kept.exposed.site plan.exchanges plan.epoch)
     → Refines StandsFor ShowsInSections (ServesLogged kept.exposed.site bounds middle out_now result) kept later w v
-    → ComesOutPrinting (ServesWithLog bounds plan kept.exposed.site) (around files w) (around files v) out out_now (status_at_log_end result) (line_at_log_end result)
+    → ComesOutInTurn (ServesWithLog bounds plan kept.exposed.site) (around files w) (around files v) out out_now (status_at_log_end result) (line_at_log_end result)
 logged_ends bounds plan kept later files w v out middle out_now line answer result shows is well stands serves =
     let site = kept.exposed.site in
     let heading = heading_of plan site in
@@ -160,26 +244,24 @@ logged_ends bounds plan kept later files w v out middle out_now line answer resu
     let shown = made.2.seen in
     let end = line_at_log_end result in
     let first = did_write heading ∷ with_log 0 [] shown in
-    record {
-      seen = first ++ did_write end ∷ [];
-      stage = has_logged result shown made.0 made.2.move.ran (refl, refl);
-      shows = shows_then (around files w) (around files v) (around files v) first (did_write end ∷ [])
-          (shows_then (around files w) (around files w) (around files v) (did_write heading ∷ []) (with_log 0 [] shown) (shows_wrote (around files w) heading) (shows_logged files w v shown made.2.shows))
-          (shows_wrote (around files v) end);
-      printed = heading ++ log_from 0 shown;
-      answer = answer_of result;
-      wrote = out_then out middle out_now (answer_of result) heading (log_from 0 shown)
-          (subst (λ (x : List ℕ). OutShows out middle put.Done x) is (subst (λ (p : Put). OutShows out middle p line) (done answer well) shows))
-          (logs_shown middle out_now shown result made.2.move.wrote);
-      text_is = flat_map-append written_in first (did_write end ∷ []) ∙ ap (λ (x : List ℕ). (heading ++ x) ++ text_in (did_write end ∷ [])) (text_logged 0 [] shown)
-          ∙ ap (λ (x : List ℕ). (heading ++ log_from 0 shown) ++ x) (line_alone end);
-      failed = seven_only result;
-      unprinted = unwritten_only result;
-    }
-  where
-    done : (p : Put) → ¬ (p ≡ put.Failed) → p ≡ put.Done
-    done put.Done isnt = refl
-    done put.Failed isnt = absurd (isnt refl)
+    let wrote : OutShows out middle put.Done heading = subst (λ (x : List ℕ). OutShows out middle put.Done x) is (subst (λ (p : Put). OutShows out middle p line) well shows) in
+    (
+      record {
+        seen = first ++ did_write end ∷ [];
+        stage = has_logged result shown made.0 made.2.move.ran (refl, refl);
+        shows = shows_then (around files w) (around files v) (around files v) first (did_write end ∷ [])
+            (shows_then (around files w) (around files w) (around files v) (did_write heading ∷ []) (with_log 0 [] shown) (shows_wrote (around files w) heading) (shows_logged files w v shown made.2.shows))
+            (shows_wrote (around files v) end);
+        printed = heading ++ log_from 0 shown;
+        answer = answer_of result;
+        wrote = out_then out middle out_now (answer_of result) heading (log_from 0 shown) wrote (logs_shown middle out_now shown result made.2.move.wrote);
+        text_is = flat_map-append written_in first (did_write end ∷ []) ∙ ap (λ (x : List ℕ). (heading ++ x) ++ text_in (did_write end ∷ [])) (text_logged 0 [] shown)
+            ∙ ap (λ (x : List ℕ). (heading ++ log_from 0 shown) ++ x) (line_alone end);
+        failed = seven_only result;
+        unprinted = unwritten_only result;
+      },
+      logs_in_turn heading shown result out middle out_now wrote made.2.move.wrote,
+    )
 
 -- the serving line of these texts is that of the plan
 pub heading_same : (plan : Plan) (site : Site) (http coap : List ℕ) (things : ℕ) → http ≡ plan.frame.bases.http → coap ≡ plan.frame.bases.coap → things ≡ length site.things → serving_line http coap things ≡ heading_of plan site
@@ -188,10 +270,10 @@ heading_same plan site http coap things by_http by_coap count =
     ∙ ap (λ (n : ℕ). serving_line plan.frame.bases.http plan.frame.bases.coap n) count
 
 -- a command that came out so, by its status and its text
-pub printing_as : (P : List Deed → Outcome (Unit {0}) → Type 0) (before now : Around) (out out_now : OutSeen) (status : ℕ) (text : List ℕ) (r : Result Ending Ended) → ComesOutPrinting P before now out out_now status text → final_status r ≡ status → final_text r ≡ text → EndsPrinting P before now out out_now r
+pub printing_as : (P : List Deed → Outcome (Unit {0}) → Type 0) (before now : Around) (out out_now : OutSeen) (status : ℕ) (text : List ℕ) (r : Result Ending Ended) → ComesOutInTurn P before now out out_now status text → final_status r ≡ status → final_text r ≡ text → EndsInTurn P before now out out_now r
 printing_as P before now out out_now status text r comes status_is text_is =
-    subst (λ (n : ℕ). ComesOutPrinting P before now out out_now n (final_text r)) (sym status_is)
-    (subst (λ (t : List ℕ). ComesOutPrinting P before now out out_now status t) (sym text_is) comes)
+    subst (λ (n : ℕ). ComesOutInTurn P before now out out_now n (final_text r)) (sym status_is)
+    (subst (λ (t : List ℕ). ComesOutInTurn P before now out out_now status t) (sym text_is) comes)
 
 -- ---- where nothing is wrong
 

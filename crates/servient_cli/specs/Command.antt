@@ -37,8 +37,8 @@ use Rattle.command_stages.specs.Inputs.{built_in}
 use Rattle.servient_cli.specs.Replaying.{Replays, IsFaultlessScript}
 use Rattle.servient_cli.specs.Storming.{Storms}
 use Rattle.servient_cli.specs.Listening.{ServesPlan}
-use Rattle.servient_cli.specs.LoggedServing.{LogsPlan}
-use Rattle.servient_cli.specs.Consuming.{ConsumesThing}
+use Rattle.servient_cli.specs.LoggedServing.{LogsPlan, IsInTurn, WritesInTurn}
+use Rattle.servient_cli.specs.Consuming.{ConsumesThing, EndsPrinting}
 use Rattle.servient_cli.specs.Discovering.{DiscoversThings}
 use Rattle.command_stages.specs.Checking.{Checks, IsFaultlessDescription}
 use Rattle.command_stages.specs.Deriving.{ReadsPlanned, DerivesAndPrints, IsFaultlessPlan, derived_of}
@@ -130,19 +130,25 @@ IsReported status text out out_now result =
     × (prefix : List ℕ) × (rest : List ℕ) × (text ≡ prefix ++ rest) × Continues out.written out_now.written prefix
 
 -- Stages came out with a status, the files, the network and the handlers show what was done, and the output shows what
--- was written, which it was where it had room for it.
-pub record EndsAndReports (P : List Deed → Outcome (Unit {0}) → Type 0) (before now : Around) (out out_now : OutSeen) (result : ℕ) : Type 0 where
+-- was written, which it was where it had room for it; with a log, in turn with what was done.
+pub record EndsAndReports (logs : Bool) (P : List Deed → Outcome (Unit {0}) → Type 0) (before now : Around) (out out_now : OutSeen) (result : ℕ) : Type 0 where
   pub seen : List Deed
   pub status : ℕ
   pub stage : P seen (ends status)
   pub shows : ShowsDeeds before now seen
   pub reported : IsReported status (text_in seen) out out_now result
   pub no_failure : NoWriteFailed out out_now (text_in seen)
+  pub in_turn : logs ≡ true → WritesInTurn out out_now seen result
+
+-- A command that writes as it goes ended so, before the text of its end is written.
+abbrev pub EndsWriting : Bool → (List Deed → Outcome (Unit {0}) → Type 0) → Around → Around → OutSeen → OutSeen → Result Ending Ended → Type 0
+EndsWriting logs P before now out out_now result =
+    (ended : EndsPrinting P before now out out_now result) × (logs ≡ true → IsInTurn out out_now ended.seen (final_text result) ended.answer)
 
 -- The top call did this: the command of its words.
 abbrev pub Ends : List (List ℕ) → Around → Around → OutSeen → OutSeen → ℕ → Type 0
 Ends words before now out out_now result =
-    EndsAndReports (Commands before.files.held (kinds_of before.outside.slots) words) before now out out_now result
+    EndsAndReports (is_logging (meaning_of words)) (Commands before.files.held (kinds_of before.outside.slots) words) before now out out_now result
 
 -- Nothing is wrong with a file: the files hold it, it is not too long, and nothing is wrong with what it holds.
 pub record HoldsFaultless (files : List HeldFile) (limit : ℕ) (name : List ℕ) (Good : List ℕ → Type 0) : Type 0 where

@@ -1,12 +1,16 @@
 -- `serve PLAN --log`: the Things of a plan are served as without a log, and what their handlers were asked and answered is
 -- written: the serving line once it listens, and then a line for each turn.
-use Rattle.std.specs.Prelude.{◌≡◌, ◌*◌, ℕ, List, [], ◌∷◌, ◌++◌, length, Option, Result, Ok, Err}
+use Rattle.std.specs.Prelude.{◌≡◌, ◌≢◌, ◌*◌, ℕ, List, [], ◌∷◌, ◌++◌, length, Option, Result, Ok, Err}
 use Rattle.wot_terms.specs.declared.kind.Kind.{Kind}
 use Rattle.thing_handler.specs.Turns.{HandlerCall, answered, missed}
 use Rattle.thing_state.specs.State.{most_turns}
 use Rattle.servient_outside.specs.declared.files.HeldFile.{HeldFile}
-use Rattle.servient_outside.specs.Network.{heard, did, broke}
-use Rattle.servient_trace.specs.Trace.{at_network, at_handler}
+use Rattle.servient_outside.specs.declared.out.Put.{Put}
+use Rattle.servient_outside.specs.declared.out.Put.TheVariants as put
+use Rattle.servient_outside.specs.Out.{OutSeen}
+use Rattle.servient_outside.specs.Told.{Continues}
+use Rattle.servient_outside.specs.Network.{heard, did, broke, events_in}
+use Rattle.servient_trace.specs.Trace.{at_network, at_handler, happened_in}
 use Rattle.servient_trace.specs.ShownSections.{Shown, saw, forgot}
 use Rattle.command_words.specs.declared.command.Budget.{Budget}
 use Rattle.command_words.specs.declared.command.Budget.TheVariants as budget
@@ -20,10 +24,13 @@ use Rattle.logged_serving.specs.declared.serving.LoggedEnd.TheVariants as logged
 use Rattle.logged_serving.specs.Logging.{RunsLogged}
 use Rattle.command_stages.specs.declared.derivation.Planned.{Planned}
 use Rattle.logged_serving.specs.declared.run_log.RunLog.{RunLog}
+use Rattle.command_stages.specs.declared.ending.Ending.{Ending}
 use Rattle.command_stages.specs.declared.ending.Ended.{Ended}
+use Rattle.command_stages.specs.Ending.{final_status, final_text}
 use Rattle.command_stages.specs.Lines.{network_line, spent_line}
-use Rattle.command_stages.specs.Stages.{Deed, did_see, did_forget, did_write, Outcome, goes_on, ends, EndsWith, RunsOut, AndThen}
+use Rattle.command_stages.specs.Stages.{Deed, did_see, did_forget, did_write, sightings_in, text_in, Outcome, goes_on, ends, EndsWith, RunsOut, AndThen, Around}
 use Rattle.command_stages.specs.Deriving.{ReadsPlanned}
+use Rattle.servient_cli.specs.Consuming.{ComesOutPrinting}
 use Rattle.servient_cli.specs.Opening.{Opens}
 use Rattle.servient_cli.specs.Listening.{Listens, widest}
 
@@ -99,6 +106,46 @@ LogsPlanned name kinds budget idle p =
 -- Serving a plan with a log on a rack with handlers of these kinds.
 abbrev pub LogsPlan : Option (List HeldFile) → List Kind → List ℕ → Budget → ℕ → List Deed → Outcome (Unit {0}) → Type 0
 LogsPlan held kinds plan budget idle = AndThen (ReadsPlanned held plan) (LogsPlanned plan kinds budget idle)
+
+-- ---- the texts in turn
+
+-- no event was taken from the network
+abbrev pub TookNothing : List Deed → Type 0
+TookNothing seen = events_in (happened_in (sightings_in seen)) ≡ []
+
+-- These deeds were done with their texts in turn, and the command ended with this status. The texts of the first of them were
+-- written, all, and a part of the text of the later ones, by which no event is taken: so before each event all texts before it
+-- were written. Unless the status is 7, that part is the whole.
+pub record WritesInTurn (out out_now : OutSeen) (seen : List Deed) (result : ℕ) : Type 0 where
+  pub first : List Deed
+  pub later : List Deed
+  pub whole : seen ≡ first ++ later
+  pub untaken : TookNothing later
+  pub part : List ℕ
+  pub rest : List ℕ
+  pub text_is : text_in later ≡ part ++ rest
+  pub wrote : Continues out.written out_now.written (text_in first ++ part)
+  pub all : result ≢ 7 → rest ≡ []
+
+-- The same before the text of the end is written: where no write failed, that text is what is left.
+pub record IsInTurn (out out_now : OutSeen) (seen : List Deed) (text : List ℕ) (answer : Put) : Type 0 where
+  pub first : List Deed
+  pub later : List Deed
+  pub whole : seen ≡ first ++ later
+  pub untaken : TookNothing later
+  pub part : List ℕ
+  pub rest : List ℕ
+  pub text_is : text_in later ≡ part ++ rest
+  pub wrote : Continues out.written out_now.written (text_in first ++ part)
+  pub left : answer ≡ put.Done → rest ≡ text
+
+-- a command came out so, and its texts were written in turn
+abbrev pub ComesOutInTurn : (List Deed → Outcome (Unit {0}) → Type 0) → Around → Around → OutSeen → OutSeen → ℕ → List ℕ → Type 0
+ComesOutInTurn P before now out out_now status text =
+    (comes : ComesOutPrinting P before now out out_now status text) × IsInTurn out out_now comes.seen text comes.answer
+
+abbrev pub EndsInTurn : (List Deed → Outcome (Unit {0}) → Type 0) → Around → Around → OutSeen → OutSeen → Result Ending Ended → Type 0
+EndsInTurn P before now out out_now result = ComesOutInTurn P before now out out_now (final_status result) (final_text result)
 
 -- ---- how the code's answers are read
 

@@ -1,5 +1,5 @@
 -- The whole call: what its words lead to, and how it ends where nothing is wrong.
-use Rattle.std.proofs.Common.{true, false, ◌≡◌, ◌≤◌, ◌⊎◌, ℕ, List, [], ◌∷◌, length, Result, Err, Option, Some, None, refl, sym, ap, ◌∙◌, subst, inl, inr}
+use Rattle.std.proofs.Common.{Bool, true, false, ◌≡◌, ◌≤◌, ◌⊎◌, ℕ, List, [], ◌∷◌, length, Result, Err, Option, Some, None, refl, sym, ap, ◌∙◌, subst, arith, inl, inr}
 use Rattle.std.proofs.lemmas.Option.{same_Some}
 use Rattle.wot_json.specs.Tree.{Json}
 use Rattle.wot_json.specs.Meaning.{json_of}
@@ -31,6 +31,7 @@ use Rattle.servient_cli.specs.Replaying.{run_events, RunsOn}
 use Rattle.command_stages.specs.Checking.{Checks, IsFaultlessDescription, Judges}
 use Rattle.command_stages.specs.Deriving.{ReadsPlanned, Derives, derived_of, Prints, DerivesAndPrints}
 use Rattle.command_stages.specs.Tabling.{PrintsTable, Tables}
+use Rattle.servient_outside.specs.declared.out.Put.TheVariants as put
 use Rattle.servient_outside.specs.Out.{OutSeen, NoWriteFailed}
 use Rattle.servient_cli.specs.Command.{reads_files, IsFaultless, HasFaultlessFiles, IsReported, Ends, NothingFailed, IsAnswered, IsWell, Does, Commands, EndsAndReports, is_asking, is_discovering, is_logging, is_networked, is_serving, is_writing, is_no_command, is_command, words_memory}
 use Rattle.command_stages.proofs.FaultlessReading.{GoesOn, EndsWell, by_memory, same_status, HasTrouble, what_trouble, rose_some, then_well, read_well, tree_well, judge_well, derive_well, print_well}
@@ -40,6 +41,7 @@ use Rattle.servient_base.specs.Count.{Rose}
 use Rattle.servient_cli.proofs.FaultlessConsuming.{IsConsumed, MayEnd, consume_well, discover_well}
 use Rattle.servient_cli.proofs.ServedStages.{IsServed, serving_well}
 use Rattle.servient_cli.proofs.LoggedStages.{IsLogged, logging_well}
+use Rattle.servient_cli.proofs.ConsumingStages.{line_in_turn, turn_reported}
 use Rattle.servient_cli.proofs.StormStages.{storm_well}
 
 -- the command did what it is for, was out of memory, served and has spent its budget, asked others, or couldn't write its log

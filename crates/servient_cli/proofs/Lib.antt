@@ -4,6 +4,7 @@ pub mod LoggedStages
 mod CommandStages
 mod ConsumingStages
 mod UsageStages
+pub mod UnseenStages
 mod RunLaws
 mod OpeningStages
 mod CountLaws

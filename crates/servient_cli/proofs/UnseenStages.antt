@@ -102,3 +102,7 @@ listens_untaken place seen o (is_listening saw goes) = ap (λ (ds : List Deed). 
 listens_untaken place seen o (cannot_listen end) = ap (λ (ds : List Deed). events_in (happened_in (sightings_in ds))) end.0
 listens_untaken place seen o (place_memory end) = ap (λ (ds : List Deed). events_in (happened_in (sightings_in ds))) end.0
 listens_untaken place seen o (listen_memory end) = ap (λ (ds : List Deed). events_in (happened_in (sightings_in ds))) end.0
+
+-- and so is opening a servient
+pub opens_unseen : (name : List ℕ) (kinds : List Kind) (p : Planned) → Quiet (Opens name kinds p)
+opens_unseen name kinds p = then_unseen (Derives p) (Exposes name kinds p.plan) (derived_unseen p) (exposed_unseen name kinds p.plan)

@@ -12,8 +12,7 @@ ghost use Rattle.servient_script.specs.Merging.{counts_of};
 ghost use Rattle.turn_lines.specs.Buffer.{buffered_of, nothing_held};
 ghost use Rattle.command_stages.specs.Stages.{Around, around};
 ghost use Rattle.command_stages.specs.Ending.{Performs, final_status, final_text};
-ghost use Rattle.servient_cli.specs.Consuming.{ComesOutPrinting, EndsPrinting};
-ghost use Rattle.servient_cli.specs.LoggedServing.{bounds_of as bounds_by, line_at_log_end, status_at_log_end, taken_log, LogsPlan, LogsPlanned, ServesWithLog, TakesLog};
+ghost use Rattle.servient_cli.specs.LoggedServing.{bounds_of as bounds_by, line_at_log_end, status_at_log_end, taken_log, ComesOutInTurn, EndsInTurn, LogsPlan, LogsPlanned, ServesWithLog, TakesLog};
 
 use crate::listening::{ServeRequest, listen};
 use crate::opening::{CountedServient, open_counted};
@@ -36,7 +35,7 @@ pub fn log_plan<F: Files, N: Net, R: Handlers, O: Out>(
     rack: &mut R,
     out: &mut O,
 ) -> Result<Ending, Ended>
-    ensures { EndsPrinting (LogsPlan (F.seen files.old).held (kinds_of (R.slots rack.old)) request.entry.plan.now request.entry.budget request.entry.idle)
+    ensures { EndsInTurn (LogsPlan (F.seen files.old).held (kinds_of (R.slots rack.old)) request.entry.plan.now request.entry.budget request.entry.idle)
         (around (F.seen files.old) (outside (N.seen net.old) (R.slots rack.old)))
         (around (F.seen files.new) (outside (N.seen net.new) (R.slots rack.new)))
         (O.seen out.old) (O.seen out.new) result }
@@ -55,7 +54,7 @@ fn log_planned<N: Net, R: Handlers, O: Out>(
     out: &mut O,
 ) -> Result<Ending, Ended>
     requires { MayBeServed planned.now.plan }
-    ensures { (files : FilesSeen) → EndsPrinting (LogsPlanned request.entry.plan.now (kinds_of (R.slots rack.old)) request.entry.budget request.entry.idle planned.now)
+    ensures { (files : FilesSeen) → EndsInTurn (LogsPlanned request.entry.plan.now (kinds_of (R.slots rack.old)) request.entry.budget request.entry.idle planned.now)
         (around files (outside (N.seen net.old) (R.slots rack.old)))
         (around files (outside (N.seen net.new) (R.slots rack.new)))
         (O.seen out.old) (O.seen out.new) result }
@@ -117,7 +116,7 @@ fn log_counted<N: Net, R: Handlers, O: Out>(
     requires count { counted.old.things ≡ length counted.old.servient.exposed.site.things }
     requires lines { buffered_of log.old.lines ≡ nothing_held }
     requires written { log.old.written.items ≡ counts_of (R.slots rack.old) }
-    ensures { (files : FilesSeen) → ComesOutPrinting (ServesWithLog log.old.bounds plan.now counted.old.servient.exposed.site)
+    ensures { (files : FilesSeen) → ComesOutInTurn (ServesWithLog log.old.bounds plan.now counted.old.servient.exposed.site)
         (around files (outside (N.seen net.old) (R.slots rack.old)))
         (around files (outside (N.seen net.new) (R.slots rack.new)))
         (O.seen out.old) (O.seen out.new) (status_at_log_end result) (line_at_log_end result) }
@@ -126,8 +125,9 @@ fn log_counted<N: Net, R: Handlers, O: Out>(
     let coap = plan.frame.bases.coap.as_str();
     let things = counted.things;
     let heading = Heading { http, coap, things };
-    if log.begin(out, heading) == Put::Failed {
-        return LoggedEnd::Unwritten;
+    match log.begin(out, heading) {
+        Put::Failed => return LoggedEnd::Unwritten,
+        Put::Done => {}
     }
     serve_logged(&mut counted.servient, net, rack, out, log)
 }

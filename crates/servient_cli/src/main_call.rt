@@ -7,9 +7,8 @@ ghost use Rattle.command_words.specs.Grammar.{meaning_of};
 ghost use Rattle.servient_base.specs.Count.{Rose};
 ghost use Rattle.servient_outside.specs.Out.{NoWriteFailed};
 ghost use Rattle.servient_trace.specs.Trace.{outside};
-ghost use Rattle.servient_cli.specs.Command.{calls_handlers, is_discovering, is_networked, is_storm, is_writing};
-ghost use Rattle.servient_cli.specs.Command.{Does, Ends, EndsAndReports, IsFaultless, IsNoCommand, IsReported, IsWell, MayDiscover, NothingFailed};
-ghost use Rattle.servient_cli.specs.Consuming.{EndsPrinting};
+ghost use Rattle.servient_cli.specs.Command.{calls_handlers, is_discovering, is_logging, is_networked, is_storm, is_writing};
+ghost use Rattle.servient_cli.specs.Command.{Does, Ends, EndsAndReports, EndsWriting, IsFaultless, IsNoCommand, IsReported, IsWell, MayDiscover, NothingFailed};
 ghost use Rattle.command_stages.specs.Ending.{final_status as status_in, final_text as text_in};
 
 use crate::commands::run_command;
@@ -45,7 +44,8 @@ pub fn servient_main<F: Files, N: Net, R: Handlers, O: Out>(
     rack: &mut R,
     out: &mut O,
 ) -> u8
-    // The command of the words ended with a status, and its text and the status were reported.
+    // The command of the words ended with a status, and its text and the status were reported. With a log no event was taken
+    // before all lines of the turns so far were written.
     ensures ends { Ends words.now
         (around (F.seen files.old) (outside (N.seen net.old) (R.slots rack.old)))
         (around (F.seen files.new) (outside (N.seen net.new) (R.slots rack.new)))
@@ -116,7 +116,7 @@ fn work_and_report<F: Files, N: Net, R: Handlers, O: Out>(
     out: &mut O,
 ) -> u8
     requires { is_writing (Some command.now) ≡ true }
-    ensures ends { EndsAndReports (Does (F.seen files.old).held (kinds_of (R.slots rack.old)) command.now)
+    ensures ends { EndsAndReports (is_logging (Some command.now)) (Does (F.seen files.old).held (kinds_of (R.slots rack.old)) command.now)
         (around (F.seen files.old) (outside (N.seen net.old) (R.slots rack.old))) (around (F.seen files.new) (outside (N.seen net.new) (R.slots rack.new)))
         (O.seen out.old) (O.seen out.new) result }
     ensures output { result ≡ 7 → Rose (O.seen out.old).faults (O.seen out.new).faults }
@@ -137,7 +137,7 @@ fn work<F: Files, N: Net, R: Handlers, O: Out>(
     out: &mut O,
 ) -> Result<Ending, Ended>
     requires { is_writing (Some command.now) ≡ true }
-    ensures ends { EndsPrinting (Does (F.seen files.old).held (kinds_of (R.slots rack.old)) command.now)
+    ensures ends { EndsWriting (is_logging (Some command.now)) (Does (F.seen files.old).held (kinds_of (R.slots rack.old)) command.now)
         (around (F.seen files.old) (outside (N.seen net.old) (R.slots rack.old))) (around (F.seen files.new) (outside (N.seen net.new) (R.slots rack.new)))
         (O.seen out.old) (O.seen out.new) result }
     ensures files { is_discovering (Some command.now) ≡ true → files.new ≡ files.old }

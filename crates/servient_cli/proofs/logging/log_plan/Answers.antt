@@ -4,8 +4,9 @@ use Rattle.servient_trace.specs.Trace.{outside}
 use Rattle.command_stages.specs.Stages.{around}
 use Rattle.command_stages.specs.Deriving.{ReadsPlanned}
 use Rattle.servient_cli.specs.LoggedServing.{LogsPlanned}
-use Rattle.servient_cli.proofs.ConsumingStages.{error_prints, then_prints}
+use Rattle.servient_cli.proofs.ConsumingStages.{error_in_turn, then_in_turn}
 use Rattle.servient_cli.proofs.UsageStages.{planned_not}
+use Rattle.servient_cli.proofs.UnseenStages.{planned_unseen, untaken}
 use Rattle.servient_cli.proofs.logging.log_plan.Goals as goal
 
 pub returns-in_err-planned : goal.returns-in_err-planned
@@ -17,7 +18,7 @@ returns-in_err-planned g c =
     let q = c.args.request in
     let kinds = kinds_of w.slots in
     let error = err_from_is_err_and c.from_residual.result c.from_residual.ensures.1 in
-    rw (error.1, error.2) (error_prints (ReadsPlanned held q.plan.now) (LogsPlanned q.plan.now kinds q.budget q.idle) a b (g.O.Out.seen c.args.out.now) c.in_err-planned.field-0.0 (planned_not held q.plan.now) (c.in_err-planned.ensures.stage w))
+    rw (error.1, error.2) (error_in_turn (ReadsPlanned held q.plan.now) (LogsPlanned q.plan.now kinds q.budget q.idle) a b (g.O.Out.seen c.args.out.now) c.in_err-planned.field-0.0 (planned_not held q.plan.now) (λ s r st. untaken s (planned_unseen held q.plan.now s r st)) (c.in_err-planned.ensures.stage w))
 
 pub returns : goal.returns
 returns g c =
@@ -30,5 +31,5 @@ returns g c =
     let f = around now (outside (g.N.Net.seen c.log_planned.new.net) (g.R.Handlers.slots c.log_planned.new.rack)) in
     let q = c.args.request in
     let kinds = kinds_of slots in
-    then_prints (ReadsPlanned held q.plan.now) (LogsPlanned q.plan.now kinds q.budget q.idle) a b f (g.O.Out.seen c.args.out.now) (g.O.Out.seen c.log_planned.new.out) c.in_ok-planned.planned c.log_planned.result (c.in_ok-planned.ensures.stage w)
+    then_in_turn (ReadsPlanned held q.plan.now) (LogsPlanned q.plan.now kinds q.budget q.idle) a b f (g.O.Out.seen c.args.out.now) (g.O.Out.seen c.log_planned.new.out) c.in_ok-planned.planned c.log_planned.result (c.in_ok-planned.ensures.stage w)
     (c.log_planned.ensures now)

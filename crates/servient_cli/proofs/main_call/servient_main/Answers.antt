@@ -83,7 +83,7 @@ returns-in-Ok-clause-ends g c =
     let out = g.O.Out.seen c.args.out.now in
     let out_now = g.O.Out.seen c.report.new.out in
     let result = c.report.result in
-    let whole = built_ends c.args.words.now before now out out_now c.in-Ok.command c.run_command.result result c.in-Ok.ensures c.run_command.ensures.ends c.report.ensures.reported c.report.ensures.no_failure in
+    let whole = built_ends c.args.words.now before now out out_now c.in-Ok.command c.run_command.result result c.in-Ok.ensures (sym c.writes_early.ensures ∙ c.if-writes_early.false) c.run_command.ensures.ends c.report.ensures.reported c.report.ensures.no_failure in
     whole
 
 pub returns-in-Ok-clause-complete : goal.returns-in-Ok-clause-complete
@@ -93,7 +93,7 @@ returns-in-Ok-clause-complete g c = λ fine kept.
     let out = g.O.Out.seen c.args.out.now in
     let out_now = g.O.Out.seen c.report.new.out in
     let result = c.report.result in
-    let whole = built_ends c.args.words.now before now out out_now c.in-Ok.command c.run_command.result result c.in-Ok.ensures c.run_command.ensures.ends c.report.ensures.reported c.report.ensures.no_failure in
+    let whole = built_ends c.args.words.now before now out out_now c.in-Ok.command c.run_command.result result c.in-Ok.ensures (sym c.writes_early.ensures ∙ c.if-writes_early.false) c.run_command.ensures.ends c.report.ensures.reported c.report.ensures.no_failure in
     ends_well c.args.words.now before now out out_now result whole fine kept
     (output_failed c.args.words.now before now out out_now result whole (other_is_not c.args.words.now c.in-Ok.command c.in-Ok.ensures (sym c.writes_early.ensures ∙ c.if-writes_early.false)))
 
@@ -104,7 +104,7 @@ returns-in-Ok-clause-output g c =
     let out = g.O.Out.seen c.args.out.now in
     let out_now = g.O.Out.seen c.report.new.out in
     let result = c.report.result in
-    let whole = built_ends c.args.words.now before now out out_now c.in-Ok.command c.run_command.result result c.in-Ok.ensures c.run_command.ensures.ends c.report.ensures.reported c.report.ensures.no_failure in
+    let whole = built_ends c.args.words.now before now out out_now c.in-Ok.command c.run_command.result result c.in-Ok.ensures (sym c.writes_early.ensures ∙ c.if-writes_early.false) c.run_command.ensures.ends c.report.ensures.reported c.report.ensures.no_failure in
     output_failed c.args.words.now before now out out_now result whole (other_is_not c.args.words.now c.in-Ok.command c.in-Ok.ensures (sym c.writes_early.ensures ∙ c.if-writes_early.false))
 
 pub returns-in-Ok-clause-usage : goal.returns-in-Ok-clause-usage
@@ -114,7 +114,7 @@ returns-in-Ok-clause-usage g c =
     let out = g.O.Out.seen c.args.out.now in
     let out_now = g.O.Out.seen c.report.new.out in
     let result = c.report.result in
-    let whole = built_ends c.args.words.now before now out out_now c.in-Ok.command c.run_command.result result c.in-Ok.ensures c.run_command.ensures.ends c.report.ensures.reported c.report.ensures.no_failure in
+    let whole = built_ends c.args.words.now before now out out_now c.in-Ok.command c.run_command.result result c.in-Ok.ensures (sym c.writes_early.ensures ∙ c.if-writes_early.false) c.run_command.ensures.ends c.report.ensures.reported c.report.ensures.no_failure in
     usage_is_exact c.args.words.now before now out out_now result whole
 
 pub returns-in-Ok-clause-storm : goal.returns-in-Ok-clause-storm
@@ -124,7 +124,7 @@ returns-in-Ok-clause-storm g c =
     let out = g.O.Out.seen c.args.out.now in
     let out_now = g.O.Out.seen c.report.new.out in
     let result = c.report.result in
-    let whole = built_ends c.args.words.now before now out out_now c.in-Ok.command c.run_command.result result c.in-Ok.ensures c.run_command.ensures.ends c.report.ensures.reported c.report.ensures.no_failure in
+    let whole = built_ends c.args.words.now before now out out_now c.in-Ok.command c.run_command.result result c.in-Ok.ensures (sym c.writes_early.ensures ∙ c.if-writes_early.false) c.run_command.ensures.ends c.report.ensures.reported c.report.ensures.no_failure in
     never_spent c.args.words.now before now out out_now result whole
 
 pub returns-in-Ok-clause-discovery : goal.returns-in-Ok-clause-discovery
@@ -134,7 +134,7 @@ returns-in-Ok-clause-discovery g c =
     let out = g.O.Out.seen c.args.out.now in
     let out_now = g.O.Out.seen c.report.new.out in
     let result = c.report.result in
-    let whole = built_ends c.args.words.now before now out out_now c.in-Ok.command c.run_command.result result c.in-Ok.ensures c.run_command.ensures.ends c.report.ensures.reported c.report.ensures.no_failure in
+    let whole = built_ends c.args.words.now before now out out_now c.in-Ok.command c.run_command.result result c.in-Ok.ensures (sym c.writes_early.ensures ∙ c.if-writes_early.false) c.run_command.ensures.ends c.report.ensures.reported c.report.ensures.no_failure in
     discovery_ends c.args.words.now before now out out_now result whole
 
 pub returns-in-Ok-clause-files : goal.returns-in-Ok-clause-files

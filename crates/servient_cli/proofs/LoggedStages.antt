@@ -153,7 +153,7 @@ unwritten_only logged.Unwritten seven = refl
 pub heading_ends : (bounds : RunBounds) (plan : Plan) (site : Site) (a : Around) (out out_now : OutSeen) (line : List ℕ) (answer : Put) → OutShows out out_now answer line → line ≡ heading_of plan site → answer ≡ put.Failed → ComesOutInTurn (ServesWithLog bounds plan site) a a out out_now 7 []
 heading_ends bounds plan site a out out_now line answer shows is failed =
     let heading = heading_of plan site in
-    let wrote : OutShows out out_now put.Failed heading = subst (λ (x : List ℕ). OutShows out out_now put.Failed x) is (subst (λ (p : Put). OutShows out out_now p line) failed shows) in
+    let told : OutShows out out_now put.Failed heading = subst (λ (x : List ℕ). OutShows out out_now put.Failed x) is (subst (λ (p : Put). OutShows out out_now p line) failed shows) in
     (
       record {
         seen = did_write heading ∷ did_write [] ∷ [];
@@ -161,7 +161,7 @@ heading_ends bounds plan site a out out_now line answer shows is failed =
         shows = shows_then a a a (did_write heading ∷ []) (did_write [] ∷ []) (shows_wrote a heading) (shows_wrote a []);
         printed = heading;
         answer = put.Failed;
-        wrote = wrote;
+        wrote = told;
         text_is = refl;
         failed = λ f. (refl, refl);
         unprinted = λ seven. refl;
@@ -171,10 +171,10 @@ heading_ends bounds plan site a out out_now line answer shows is failed =
         later = did_write heading ∷ did_write [] ∷ [];
         whole = refl;
         untaken = refl;
-        part = wrote.writes.0;
-        rest = wrote.writes.1;
-        text_is = append-nil heading ∙ wrote.writes.2;
-        wrote = wrote.writes.3;
+        part = told.writes.0;
+        rest = told.writes.1;
+        text_is = append-nil heading ∙ told.writes.2;
+        wrote = told.writes.3;
         left = λ done. absurd cc;
       },
     )
@@ -223,7 +223,7 @@ step_in_turn heading line shown first e step r out middle later out_now unwritte
           (ap (λ (x : List ℕ). heading ++ x) (sym (flat_map-append written_in before (hears ∷ []) ∙ append-nil (text_in before) ∙ text_logged 0 [] first)))
           (continues_then out.written later.written out_now.written (heading ++ log_from 0 first) last.writes.0
           (continues_then out.written middle.written later.written heading (log_from 0 first) one.writes other.writes) last.writes.3);
-      left = λ done. let bad : put.Failed ≡ put.Done = ap answer_of (sym unwritten) ∙ done in absurd cc;
+      left = λ done. absurd (let bad : put.Failed ≡ put.Done = ap answer_of (sym unwritten) ∙ done in cc);
     }
 
 logs_in_turn : (heading : List ℕ) (shown : List Shown) (r : LoggedEnd) (out middle out_now : OutSeen) → OutShows out middle put.Done heading → Logs middle out_now shown r
@@ -244,7 +244,7 @@ logged_ends bounds plan kept later files w v out middle out_now line answer resu
     let shown = made.2.seen in
     let end = line_at_log_end result in
     let first = did_write heading ∷ with_log 0 [] shown in
-    let wrote : OutShows out middle put.Done heading = subst (λ (x : List ℕ). OutShows out middle put.Done x) is (subst (λ (p : Put). OutShows out middle p line) well shows) in
+    let told : OutShows out middle put.Done heading = subst (λ (x : List ℕ). OutShows out middle put.Done x) is (subst (λ (p : Put). OutShows out middle p line) well shows) in
     (
       record {
         seen = first ++ did_write end ∷ [];
@@ -254,13 +254,13 @@ logged_ends bounds plan kept later files w v out middle out_now line answer resu
             (shows_wrote (around files v) end);
         printed = heading ++ log_from 0 shown;
         answer = answer_of result;
-        wrote = out_then out middle out_now (answer_of result) heading (log_from 0 shown) wrote (logs_shown middle out_now shown result made.2.move.wrote);
+        wrote = out_then out middle out_now (answer_of result) heading (log_from 0 shown) told (logs_shown middle out_now shown result made.2.move.wrote);
         text_is = flat_map-append written_in first (did_write end ∷ []) ∙ ap (λ (x : List ℕ). (heading ++ x) ++ text_in (did_write end ∷ [])) (text_logged 0 [] shown)
             ∙ ap (λ (x : List ℕ). (heading ++ log_from 0 shown) ++ x) (line_alone end);
         failed = seven_only result;
         unprinted = unwritten_only result;
       },
-      logs_in_turn heading shown result out middle out_now wrote made.2.move.wrote,
+      logs_in_turn heading shown result out middle out_now told made.2.move.wrote,
     )
 
 -- the serving line of these texts is that of the plan

@@ -3,13 +3,13 @@
 -- The grammar gives the meaning of the words, `meaning_of` of `command_words`.
 -- `replay SCRIPT [PLAN]` reads the plan and its models, if a plan is named, and the script, runs its events, and prints
 -- the acts and the turns. `serve PLAN` reads a plan and its models, listens at the plan's place, and serves what comes
--- there, as many events as its budget has; with `--log` it writes a line for each turn besides. `check TD` reads a Thing Description and says whether it is valid, or its
--- first fault. `derive PLAN` reads a plan and its models, and prints the descriptions of its Things, or the first
+-- there, as many events as its budget has; with `--log` it writes a line for each turn besides. `check TD` reads a Thing
+-- Description and says whether it is valid, or its first fault. `derive PLAN` reads a plan and its models, and prints the descriptions of its Things, or the first
 -- fault; with `--table` it prints what the plan gives each affordance in their place. `storm SEED N` runs events that are
 -- drawn from a seed on the built-in Thing, and counts what came of them. `consume TD OPERATION NAME` reads a description,
 -- and does an operation on the Thing that it describes. `discover HOST:PORT` asks a server which Things it has. Each is a
 -- row of stages, in a file of its own. A further command adds its file and a row.
-use Rattle.std.specs.Prelude.{◌≡◌, ◌≢◌, ◌≤◌, ◌⊎◌, ℕ, Bool, true, false, List, [], ◌++◌, Option, Some, None, Ok, length}
+use Rattle.std.specs.Prelude.{◌≡◌, ◌≢◌, ◌≤◌, ◌⊎◌, ℕ, Bool, true, false, List, [], ◌++◌, Option, Some, None, Result, Ok, length}
 use Rattle.servient_base.specs.Count.{Rose}
 use Rattle.wot_json.specs.Tree.{Json}
 use Rattle.wot_json.specs.Reading.{tree_of}
@@ -29,6 +29,9 @@ use Rattle.servient_outside.specs.Told.{Continues}
 use Rattle.servient_outside.specs.Files.{content_of}
 use Rattle.servient_outside.specs.Out.{OutSeen, NoWriteFailed}
 use Rattle.command_stages.specs.declared.derivation.Planned.{Planned}
+use Rattle.command_stages.specs.declared.ending.Ending.{Ending}
+use Rattle.command_stages.specs.declared.ending.Ended.{Ended}
+use Rattle.command_stages.specs.Ending.{final_text}
 use Rattle.command_stages.specs.Lines.{usage_line}
 use Rattle.command_stages.specs.Stages.{Deed, text_in, Outcome, ends, EndsWith, RunsOut, AndThen, Around, ShowsDeeds}
 use Rattle.command_stages.specs.Reading.{ReadsFile, longest_json}

@@ -1,7 +1,7 @@
 -- The turns of a step, which are found in the handlers by their numbers.
-use Rattle.std.proofs.Common.{◌≡◌, ◌≢◌, ◌∙◌, ℕ, zero, suc, ◌+◌, ◌<◌, ◌≤◌, List, [], ◌∷◌, ◌++◌, length, take, drop, set, get_or, map, replicate, Bool, true, false, cond, refl, sym, ap, subst, arith, length-append, append_assoc, ◌⊎◌, inl, inr}
-use Rattle.std.specs.Prelude.{Option, Some, None, nat_lt, slice_get, IfSome}
-use Rattle.std.specs.List.{position, position_or_len, flat_map}
+use Rattle.std.proofs.Common.{◌≡◌, ◌∙◌, ℕ, zero, suc, ◌+◌, ◌<◌, ◌≤◌, List, [], ◌∷◌, ◌++◌, length, take, drop, set, get_or, map, replicate, Bool, true, false, cond, refl, sym, ap, subst, arith, length-append, append_assoc, ◌⊎◌, inl, inr}
+use Rattle.std.specs.Prelude.{Some, None, nat_lt, slice_get, IfSome}
+use Rattle.std.specs.List.{position, flat_map}
 use Rattle.std.proofs.lemmas.Bool.{lt-ltb}
 use Rattle.std.proofs.lemmas.List.{append-nil, drop-drop}
 use Rattle.std.proofs.Math.Seq.{take-append_seam}

@@ -1,5 +1,5 @@
 -- The invariant of serving with a log, and how it ends.
-use Rattle.std.proofs.Common.{◌≡◌, ◌≢◌, ◌∙◌, ℕ, ◌+◌, ◌≤◌, ◌<◌, ◌⊎◌, List, [], ◌∷◌, ◌++◌, length, map, refl, sym, ap, subst, arith, inl, inr, length-append}
+use Rattle.std.proofs.Common.{◌≡◌, ◌≢◌, ◌∙◌, ℕ, ◌+◌, ◌≤◌, ◌<◌, List, [], ◌∷◌, ◌++◌, length, map, refl, sym, ap, subst, arith, inl, inr, length-append}
 use Rattle.std.specs.List.{flat_map}
 use Rattle.std.proofs.lemmas.List.{append-nil}
 use Rattle.std.proofs.lemmas.List.Elements.{filter_map-append}
@@ -21,7 +21,7 @@ use Rattle.servient_trace.proofs.TraceLaws.{shows_in_order, shows_at_network}
 use Rattle.servient_core.specs.Machine.{Site, State, Step, EventAndStep, Run}
 use Rattle.servient_core.specs.declared.layers.Layers.{Layers}
 use Rattle.servient_core.specs.Serving.{StandsFor, HasNoStop}
-use Rattle.servient_core.specs.Sections.{IsInTime, ForgetsIfDue, isnt_due, is_due}
+use Rattle.servient_core.specs.Sections.{ForgetsIfDue, isnt_due, is_due}
 use Rattle.servient_core.specs.declared.sections.RunBounds.{RunBounds}
 use Rattle.servient_core.specs.declared.sections.TheConstants.{MOST_KEPT}
 use Rattle.servient_core.proofs.PartLaws.{stands_for_some}

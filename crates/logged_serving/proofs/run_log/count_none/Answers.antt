@@ -1,5 +1,4 @@
-use Rattle.std.proofs.Common.{◌≡◌, ◌∙◌, ◌++◌, ◌<◌, List, ℕ, [], drop, replicate, set, length, sym, ap, subst, arith}
-use Rattle.std.proofs.lemmas.List.{append-nil}
+use Rattle.std.proofs.Common.{◌∙◌, List, ℕ, set, ap, arith}
 use Rattle.std.proofs.lemmas.List.Edits.{fill_none, fill_more}
 use Rattle.logged_serving.proofs.Counting.{all_none}
 use Rattle.logged_serving.proofs.run_log.count_none.Goals as goal

@@ -1,7 +1,6 @@
-use Rattle.std.proofs.Common.{◌≡◌, ◌∙◌, List, sym, ap, arith, subst, true, false}
+use Rattle.std.proofs.Common.{◌∙◌, sym, ap, arith}
 use Rattle.servient_script.specs.Merging.{begins_with, turns_after}
 use Rattle.servient_script.proofs.MergeLaws.{as_long, kept_at}
-use Rattle.thing_handler.specs.declared.handler.Turn.{Turn}
 use Rattle.logged_serving.proofs.Counting.{later_at, as_many_after, slot_found, no_slot, none_more}
 use Rattle.logged_serving.proofs.run_log.slot_of.Goals as goal
 

@@ -1,4 +1,4 @@
-use Rattle.std.proofs.Common.{◌+◌, ◌∙◌, ℕ, ap, arith, refl, sym, subst}
+use Rattle.std.proofs.Common.{◌+◌, ℕ, ap, arith, refl}
 use Rattle.servient_outside.specs.Network.{in_buffer}
 use Rattle.servient_trace.specs.Trace.{outside}
 use Rattle.servient_core.proofs.ServingLaws.{same_event}

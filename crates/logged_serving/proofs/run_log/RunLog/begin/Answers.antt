@@ -1,5 +1,4 @@
 use Rattle.turn_lines.specs.Buffer.{buffered_of}
-use Rattle.turn_lines.specs.Lines.{serving_line}
 use Rattle.turn_lines.proofs.Flushed.{flushed_all, emptied}
 use Rattle.logged_serving.proofs.run_log.RunLog.begin.Goals as goal
 

@@ -56,7 +56,7 @@ pub fn open_counted<R: Handlers>(
     ensures count { IfOk result (λ s. s.things ≡ length s.servient.exposed.site.things) }
 {
     let derived = derive_things(alloc, planned)?;
-    let things = derived.len();
+    let things = derived.as_slice().len();
     let servient = expose(alloc, name, &planned.plan, derived, rack)?;
     Ok(CountedServient { servient, things })
 }

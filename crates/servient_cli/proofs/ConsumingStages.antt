@@ -140,6 +140,10 @@ outcome_ends x (Err none) e is comes = inr ((λ no. absurd cc), ap status_of com
 
 -- ---- one stage after another
 
+-- nothing that was done has failed
+done_not : {A : Type 0} → put.Done ≡ put.Failed → A
+done_not failed = absurd cc
+
 abbrev pub error_prints : {A : Type 0} (P : List Deed → Outcome A → Type 0) (Q : A → List Deed → Outcome (Unit {0}) → Type 0) (a b : Around) (o : OutSeen) (e : Ended)
     → ((s : List Deed) (r : Outcome A) → P s r → EndsPlainly r) → Performs P a b (Err e) → EndsPrinting (AndThen P Q) a b o o (Err e)
 error_prints P Q a b o e plain p = record {
@@ -150,7 +154,7 @@ error_prints P Q a b o e plain p = record {
   answer = put.Done;
   wrote = out_none o;
   text_is = p.text_is;
-  failed = λ failed. absurd cc;
+  failed = λ failed. done_not failed;
   unprinted = λ seven. absurd ((plain p.seen (ends (status_of e)) p.stage).1 seven);
 }
 

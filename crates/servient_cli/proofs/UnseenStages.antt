@@ -1,5 +1,5 @@
 -- Stages before serving: nothing is seen of them, and so no event is taken.
-use Rattle.std.proofs.Common.{◌≡◌, ℕ, List, [], ◌∷◌, ◌++◌, ap, ap₂, sym, ◌∙◌}
+use Rattle.std.proofs.Common.{◌≡◌, ℕ, Option, List, [], ◌∷◌, ◌++◌, ap, ap₂, sym, ◌∙◌}
 use Rattle.std.proofs.lemmas.List.Elements.{filter_map-append}
 use Rattle.wot_terms.specs.declared.kind.Kind.{Kind}
 use Rattle.servient_outside.specs.declared.files.HeldFile.{HeldFile}

@@ -96,11 +96,10 @@ next_is number slot by_slot t more turn left merged found has =
     let first : turn ≡ kept_turn next.turn = head_same turn (kept_turn next.turn) left (turns_of_slot slot next.more) same in
     let rest : left ≡ turns_of_slot slot next.more = rest_same turn (kept_turn next.turn) left (turns_of_slot slot next.more) same in
     let it : t ≡ next.turn = run_same t next.turn more next.more next.whole in
-    let others : more ≡ next.more = runs_same t next.turn more next.more next.whole in
-    (
+    let others : more ≡ next.more = runs_same t next.turn more next.more next.whole in (
       ap (in_slot slot) first ∙ ap (λ (n : ℕ). in_slot n (kept_turn next.turn)) (sym next.of_slot) ∙ sym it,
       subst (λ (ls : List (List Turn)). IsMerged (number + 1) ls more) (ap (λ (ts : List Turn). set by_slot slot ts) (sym rest))
-      (subst (λ (ts : List RunTurn). IsMerged (number + 1) (set by_slot slot (turns_of_slot slot next.more)) ts) (sym others) next.left),
+          (subst (λ (ts : List RunTurn). IsMerged (number + 1) (set by_slot slot (turns_of_slot slot next.more)) ts) (sym others) next.left),
     )
   where
     head_same : (t u : Turn) (ts us : List Turn) → t ∷ ts ≡ u ∷ us → t ≡ u

@@ -226,12 +226,15 @@ pub goes_more : (most : ℕ) (c d f : Layers) (w : Outside) (n m : NetSeen) (slo
 goes_more most c d f w n m slots u out middle out_now answer count due first after moment counts e p early left comes step counted first_is after_is at writes done same fits goes = record {
   took = p.took ++ e ∷ [];
   rounds = λ s stands.
-      let it = rounds_more most c d f w n m slots u out middle out_now answer count due first after moment counts e p early left comes step counted first_is after_is at writes s stands in
-      (it.0, it.1, record {
-        seen = it.2.seen;
-        move = record { rounds = it.2.move.rounds; wrote = one_written c.exposed.site most p.took due e out middle out_now answer s it.2.seen it.0 done it.2.move };
-        shows = it.2.shows;
-      });
+      let it = rounds_more most c d f w n m slots u out middle out_now answer count due first after moment counts e p early left comes step counted first_is after_is at writes s stands in (
+        it.0,
+        it.1,
+        record {
+          seen = it.2.seen;
+          move = record { rounds = it.2.move.rounds; wrote = one_written c.exposed.site most p.took due e out middle out_now answer s it.2.seen it.0 done it.2.move };
+          shows = it.2.shows;
+        },
+      );
   count_is = omega (arith, length-append p.took (e ∷ []), p.count_is);
   going = no_stop_more p.took e p.going goes;
   site = same ∙ p.site;
@@ -265,14 +268,17 @@ pub logged_stopped : (c d f : Layers) (w : Outside) (n m : NetSeen) (slots : Lis
     → WritesStep moment first after counts u.slots middle out_now answer → answer ≡ put.Done → e.event.what ≡ what.Stop
     → Refines StandsFor ShowsInSections (ServesLogged c.exposed.site bounds out out_now logged.Stopped) c f w u
 logged_stopped c d f w n m slots u bounds out middle out_now answer count due first after moment counts e p below early left comes step counted first_is after_is at writes done stops = λ s stands.
-    let it = rounds_more bounds.turns c d f w n m slots u out middle out_now answer count due first after moment counts e p early left comes step counted first_is after_is at writes s stands in
-    (it.0, it.1, record {
-      seen = it.2.seen;
-      move = ends_quietly c.exposed.site bounds logged.Stopped (p.took ++ e ∷ []) due out out_now s it.0 it.2.seen refl
-          (p.took, e, refl, stops, p.going, omega (arith, length-append p.took (e ∷ []), p.count_is, below)) it.2.move.rounds
-          (all_written (λ isnt. cc) (one_written c.exposed.site bounds.turns p.took due e out middle out_now answer s it.2.seen it.0 done it.2.move));
-      shows = it.2.shows;
-    })
+    let it = rounds_more bounds.turns c d f w n m slots u out middle out_now answer count due first after moment counts e p early left comes step counted first_is after_is at writes s stands in (
+      it.0,
+      it.1,
+      record {
+        seen = it.2.seen;
+        move = ends_quietly c.exposed.site bounds logged.Stopped (p.took ++ e ∷ []) due out out_now s it.0 it.2.seen refl
+            (p.took, e, refl, stops, p.going, omega (arith, length-append p.took (e ∷ []), p.count_is, below)) it.2.move.rounds
+            (all_written (λ isnt. cc) (one_written c.exposed.site bounds.turns p.took due e out middle out_now answer s it.2.seen it.0 done it.2.move));
+        shows = it.2.shows;
+      },
+    )
 
 -- a write failed
 pub logged_unwritten : (c d f : Layers) (w : Outside) (n m : NetSeen) (slots : List Seen) (u : Outside) (bounds : RunBounds) (out middle out_now : OutSeen) (answer : Put) (count due first after moment : ℕ) (counts : List ℕ) (e : EventWithBytes) → Goes bounds.turns c d w (outside n slots) out middle count due → count < bounds.events → d.exposed.state.turns < due → d.exposed.state.turns < bounds.turns
@@ -281,25 +287,31 @@ pub logged_unwritten : (c d f : Layers) (w : Outside) (n m : NetSeen) (slots : L
     → Refines StandsFor ShowsInSections (ServesLogged c.exposed.site bounds out out_now logged.Unwritten) c f w u
 logged_unwritten c d f w n m slots u bounds out middle out_now answer count due first after moment counts e p below early left comes step counted first_is after_is at writes failed = λ s stands.
     let it = rounds_more bounds.turns c d f w n m slots u out middle out_now answer count due first after moment counts e p early left comes step counted first_is after_is at writes s stands in
-    let one = it.2.move in
-    (it.0, it.1, record {
-      seen = it.2.seen;
-      move = ends_quietly c.exposed.site bounds logged.Unwritten (p.took ++ e ∷ []) due out out_now s it.0 it.2.seen refl
-          (p.took, e, refl, p.going, omega (arith, length-append p.took (e ∷ []), p.count_is, below)) one.rounds
-          (step_unwritten one.first e one.step middle refl one.whole one.quiet one.before (subst (λ (x : Put). OutShows middle out_now x (log_from e.event.moment (shown_of one.step))) failed one.of_step));
-      shows = it.2.shows;
-    })
+    let one = it.2.move in (
+      it.0,
+      it.1,
+      record {
+        seen = it.2.seen;
+        move = ends_quietly c.exposed.site bounds logged.Unwritten (p.took ++ e ∷ []) due out out_now s it.0 it.2.seen refl
+            (p.took, e, refl, p.going, omega (arith, length-append p.took (e ∷ []), p.count_is, below)) one.rounds
+            (step_unwritten one.first e one.step middle refl one.whole one.quiet one.before (subst (λ (x : Put). OutShows middle out_now x (log_from e.event.moment (shown_of one.step))) failed one.of_step));
+        shows = it.2.shows;
+      },
+    )
 
 -- one of the bounds was reached
 logged_spent : (c d : Layers) (w v : Outside) (bounds : RunBounds) (out out_now : OutSeen) (count due : ℕ) (p : Goes bounds.turns c d w v out out_now count due) → ((t : State) → StandsFor d t → AreTakenLogged bounds t.thing.turns p.took logged.Spent)
     → Refines StandsFor ShowsInSections (ServesLogged c.exposed.site bounds out out_now logged.Spent) c d w v
 logged_spent c d w v bounds out out_now count due p taken = λ s stands.
-    let it = p.rounds s stands in
-    (it.0, it.1, record {
-      seen = it.2.seen;
-      move = ends_quietly c.exposed.site bounds logged.Spent p.took due out out_now s it.0 it.2.seen refl (taken it.0 it.1) it.2.move.rounds (all_written (λ isnt. cc) it.2.move.wrote);
-      shows = it.2.shows;
-    })
+    let it = p.rounds s stands in (
+      it.0,
+      it.1,
+      record {
+        seen = it.2.seen;
+        move = ends_quietly c.exposed.site bounds logged.Spent p.took due out out_now s it.0 it.2.seen refl (taken it.0 it.1) it.2.move.rounds (all_written (λ isnt. cc) it.2.move.wrote);
+        shows = it.2.shows;
+      },
+    )
 
 pub logged_numbered : (c d : Layers) (w v : Outside) (bounds : RunBounds) (out out_now : OutSeen) (count due : ℕ) → Goes bounds.turns c d w v out out_now count due → bounds.turns ≤ d.exposed.state.turns → Refines StandsFor ShowsInSections (ServesLogged c.exposed.site bounds out out_now logged.Spent) c d w v
 logged_numbered c d w v bounds out out_now count due p all =

@@ -39,11 +39,7 @@ pub struct StepTurns {
 
 impl RunLog {
     /// The log of a run on this rack, before its first event: what the handlers made before isn't written.
-    pub fn new<R: Handlers>(
-        alloc: Global,
-        rack: &R,
-        bounds: RunBounds,
-    ) -> Result<RunLog, NoMemory>
+    pub fn new<R: Handlers>(alloc: Global, rack: &R, bounds: RunBounds) -> Result<RunLog, NoMemory>
         ensures lines { IfOk result (λ log. buffered_of log.lines ≡ nothing_held) }
         ensures written { IfOk result (λ log. log.written.items ≡ counts_of (R.slots rack.now)) }
         ensures bounds { IfOk result (λ log. log.bounds ≡ bounds) }
@@ -93,13 +89,7 @@ impl RunLog {
     }
 
     /// Puts the line of the turn of this number, which is the next of its handler.
-    fn write_next<R: Handlers, O: Out>(
-        &mut self,
-        out: &mut O,
-        rack: &R,
-        moment: u64,
-        number: u64,
-    )
+    fn write_next<R: Handlers, O: Out>(&mut self, out: &mut O, rack: &R, moment: u64, number: u64)
         requires { HaveKept self.old.written.items (R.slots rack.now) }
         ensures kept { HaveKept self.new.written.items (R.slots rack.now) }
         ensures left { (turn : RunTurn) → (more : List RunTurn) → IsMerged number (turns_after self.old.written.items (R.slots rack.now)) (turn ∷ more)

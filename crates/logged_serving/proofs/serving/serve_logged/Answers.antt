@@ -92,7 +92,7 @@ loop-count-preserved g c =
     record {
       goes = goes_more c.args.log.now.bounds.turns c.args.servient.now c.loop-count.servient c.step.new.self w (g.N.Net.seen c.loop-count.net) (g.N.Net.seen c.next.new.self) slots (outside (g.N.Net.seen c.step.new.net) (g.R.Handlers.slots c.step.new.rack)) out middle (g.O.Out.seen c.write_turns.new.out) c.write_turns.result c.loop-count.count c.forget_if_due-due.result c.turns-first.result c.turns-after.result c.in-Got.event.moment c.forget_if_due-due.new.log.written.items e goes
           (omega (arith, early, c.turns-first.ensures.count)) (omega (arith, c.if-first-bounds.false, c.turns-first.ensures.count))
-    c.in-Got.ensures.shows step c.forget_if_due-due.ensures.written c.turns-first.ensures.count c.turns-after.ensures.count refl c.write_turns.ensures.shows c.in-Done.is c.step.ensures.site c.step.ensures.fits c.in_default.not-Stop;
+          c.in-Got.ensures.shows step c.forget_if_due-due.ensures.written c.turns-first.ensures.count c.turns-after.ensures.count refl c.write_turns.ensures.shows c.in-Done.is c.step.ensures.site c.step.ensures.fits c.in_default.not-Stop;
       lines = c.write_turns.ensures.lines c.in-Done.is;
       written = c.write_turns.ensures.written stepped.turns stepped.merged stepped.length_is;
     }

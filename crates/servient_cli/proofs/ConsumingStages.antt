@@ -141,7 +141,7 @@ outcome_ends x (Err none) e is comes = inr ((λ no. absurd cc), ap status_of com
 -- ---- one stage after another
 
 -- nothing that was done has failed
-done_not : {A : Type 0} → put.Done ≡ put.Failed → A
+pub done_not : {A : Type 0} → put.Done ≡ put.Failed → A
 done_not failed = absurd cc
 
 abbrev pub error_prints : {A : Type 0} (P : List Deed → Outcome A → Type 0) (Q : A → List Deed → Outcome (Unit {0}) → Type 0) (a b : Around) (o : OutSeen) (e : Ended)

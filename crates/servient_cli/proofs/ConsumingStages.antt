@@ -192,8 +192,7 @@ error_in_turn P Q a b o e plain untaken p = (
 
 pub then_in_turn : {A : Type 0} (P : List Deed → Outcome A → Type 0) (Q : A → List Deed → Outcome (Unit {0}) → Type 0) (a b c : Around) (o q : OutSeen) (value : A) (r : Result Ending Ended) → ComesOut P a b (goes_on value) [] → EndsInTurn (Q value) b c o q r → EndsInTurn (AndThen P Q) a c o q r
 then_in_turn P Q a b c o q value r first second =
-    let t = second.1 in
-    (
+    let t = second.1 in (
       then_prints P Q a b c o q value r first second.0,
       record {
         first = first.seen ++ t.first;

@@ -153,8 +153,7 @@ unwritten_only logged.Unwritten seven = refl
 pub heading_ends : (bounds : RunBounds) (plan : Plan) (site : Site) (a : Around) (out out_now : OutSeen) (line : List ℕ) (answer : Put) → OutShows out out_now answer line → line ≡ heading_of plan site → answer ≡ put.Failed → ComesOutInTurn (ServesWithLog bounds plan site) a a out out_now 7 []
 heading_ends bounds plan site a out out_now line answer shows is failed =
     let heading = heading_of plan site in
-    let told : OutShows out out_now put.Failed heading = subst (λ (x : List ℕ). OutShows out out_now put.Failed x) is (subst (λ (p : Put). OutShows out out_now p line) failed shows) in
-    (
+    let told : OutShows out out_now put.Failed heading = subst (λ (x : List ℕ). OutShows out out_now put.Failed x) is (subst (λ (p : Put). OutShows out out_now p line) failed shows) in (
       record {
         seen = did_write heading ∷ did_write [] ∷ [];
         stage = heading_unwritten (refl, refl);
@@ -244,8 +243,7 @@ logged_ends bounds plan kept later files w v out middle out_now line answer resu
     let shown = made.2.seen in
     let end = line_at_log_end result in
     let first = did_write heading ∷ with_log 0 [] shown in
-    let told : OutShows out middle put.Done heading = subst (λ (x : List ℕ). OutShows out middle put.Done x) is (subst (λ (p : Put). OutShows out middle p line) well shows) in
-    (
+    let told : OutShows out middle put.Done heading = subst (λ (x : List ℕ). OutShows out middle put.Done x) is (subst (λ (p : Put). OutShows out middle p line) well shows) in (
       record {
         seen = first ++ did_write end ∷ [];
         stage = has_logged result shown made.0 made.2.move.ran (refl, refl);

@@ -15,7 +15,7 @@ _servient() {
         --events | --idle | --count) return ;;
     esac
     case $command in
-        serve) options='--endless --events --idle' ;;
+        serve) options='--endless --events --idle --log' ;;
         derive) options=--table ;;
         replay) options=--events ;;
         consume) options='--scheme --input --count' ;;

@@ -7,6 +7,7 @@
 //! repeat N TEXT          within a file: these bytes N times, and no end of a line
 //! ! read|put|net N       the Nth read, output or call of the network fails
 //! ! net memory           the network is out of memory
+//! ! room N               the output has room for N bytes
 //! + EVENT                an event of the network, in words; then what is printed is written in words too
 //! * N EVENT              the same N times
 //! @ KIND ANSWERS         a device of this kind in the next slot, with these answers, `; ` between them
@@ -24,6 +25,9 @@ use std::alloc::{AllocError, Global};
 use thing_handler::SHIPPED_SLOTS;
 use wot_json::{Bytes, Text};
 
+/// The number of bytes of output that are kept.
+const MOST_OUTPUT: usize = 1_048_576;
+
 /// The files, the failures, the events, and the devices.
 #[derive(Drop)]
 pub struct Case {
@@ -38,6 +42,8 @@ pub struct Case {
     pub slots: usize,
     /// The number of acts that aren't printed.
     pub hidden: usize,
+    /// The number of bytes for which the output has room.
+    pub room: usize,
     /// The network is out of memory.
     pub is_crowded: bool,
     /// The output is written in words.
@@ -58,6 +64,7 @@ impl Case {
             devices: Vec::new(alloc),
             slots: SHIPPED_SLOTS,
             hidden: 0,
+            room: MOST_OUTPUT,
             is_crowded: false,
             is_in_words: false,
             file: None,
@@ -118,6 +125,10 @@ impl Case {
         match what.split_once(' ') {
             Some(("net", "memory")) => {
                 self.is_crowded = true;
+                Ok(())
+            }
+            Some(("room", bytes)) => {
+                self.room = bytes.parse::<usize>().unwrap_or(0);
                 Ok(())
             }
             Some(("read", times)) => self.reads.push(number(Some(times))),

@@ -14,9 +14,6 @@ use std::{mem, str};
 use thing_handler::{Handler, Rack, SHIPPED_SLOTS, Scripted, shipped_in};
 use wot_json::Text;
 
-/// The number of bytes of output that are kept.
-const MOST_OUTPUT: usize = 1_048_576;
-
 /// The words of a command, and its rack: devices, and the number of slots.
 #[derive(Drop)]
 struct Command<'a> {
@@ -57,7 +54,7 @@ fn files_of(alloc: Global, case: &mut Case) -> Result<FilesMemory, AllocError> {
 /// The output of a case.
 fn out_of(alloc: Global, case: &mut Case) -> Result<OutMemory, AllocError> {
     let puts = mem::replace(&mut case.puts, Calls::new(alloc));
-    OutMemory::new(alloc, MOST_OUTPUT, puts)
+    OutMemory::new(alloc, case.room, puts)
 }
 
 /// The events of a script.

@@ -53,6 +53,20 @@ fn put_budget(said: &mut String, budget: Budget) -> Result<(), AllocError> {
     }
 }
 
+/// Writes the parts of a command that serves.
+fn put_serving(
+    said: &mut String,
+    word: &str,
+    plan: &Text,
+    budget: Budget,
+    idle: u32,
+) -> Result<(), AllocError> {
+    said.push_str(word)?;
+    put_text(said, plan)?;
+    put_budget(said, budget)?;
+    write!(said, " {idle}")
+}
+
 /// Writes the parts of a command, in one order.
 fn put_command(said: &mut String, command: &Command) -> Result<(), AllocError> {
     match command {
@@ -66,11 +80,9 @@ fn put_command(said: &mut String, command: &Command) -> Result<(), AllocError> {
             put_optional(said, plan)?;
             write!(said, " {events}")
         }
-        Command::Serve { plan, budget, idle } => {
-            said.push_str("serve")?;
-            put_text(said, plan)?;
-            put_budget(said, *budget)?;
-            write!(said, " {idle}")
+        Command::Serve { plan, budget, idle } => put_serving(said, "serve", plan, *budget, *idle),
+        Command::ServeLogged { plan, budget, idle } => {
+            put_serving(said, "serve_logged", plan, *budget, *idle)
         }
         Command::Derive { plan } => {
             said.push_str("derive")?;

@@ -1,7 +1,7 @@
 -- The words around a flag: where no option before it awaits its value, the arguments of all other words are those
 -- before it and then those behind it; and where one does, there are none.
 use Rattle.std.proofs.Common.{◌≡◌, ◌+◌, ◌∙◌, ◌++◌, ◌<◌, ◌≤◌, ℕ, zero, suc, Bool, true, false, List, [], ◌∷◌, map, length, take, drop, Option, Some, None, is_some, option_map, option_and_then, refl, sym, ap, subst, arith}
-use Rattle.std.specs.Prelude.{codes, nat_eq, nat_lt, not, ◌&&◌, ◌==◌, get_or}
+use Rattle.std.specs.Prelude.{codes, nat_eq, nat_lt, not, ◌&&◌, ◌==◌, get_or, if◌then◌else◌}
 use Rattle.std.specs.List.{list_any, starts_with, All}
 use Rattle.std.specs.Str.{IsUtf8}
 use Rattle.std.proofs.lemmas.List.{at_drop_more, take_more, map-append}
@@ -13,7 +13,7 @@ use Rattle.command_words.specs.Parts.{texts}
 use Rattle.std.proofs.lemmas.List.Elements.{All-append, All-take, All-drop}
 use Rattle.std.specs.Str.{bytes_eq}
 use Rattle.command_words.specs.Words.{WordKind, option, options_end, plain, unknown, word_kind, option_of, is_equals_sign, Argument, word_given, option_given, Arguments, with_argument, arguments_after, from_word, from_value, from_either}
-use Rattle.command_words.specs.Flags.{flag_place, IsFlagPlace, arguments_around, awaits_value, is_open}
+use Rattle.command_words.specs.Flags.{flag_place, IsFlagPlace, arguments_around, awaits_value, is_open, is_open_but}
 use Rattle.command_words.proofs.WordKinds.{IsDashes, LooksLike, as_end, as_option, as_plain, as_unknown, looks_like}
 
 abbrev pub Word : Type 0
@@ -203,3 +203,10 @@ flag_step flag words i d within isnt ends_not so_far =
     later : (p : Option ℕ) → option_map (λ place. place + i) (option_map (λ place. place + 1) p) ≡ option_map (λ place. place + (i + 1)) p
     later None = refl
     later (Some n) = ap (λ k. Some k) (omega arith)
+
+-- the words so far, and one more, where another flag awaits no value
+pub open_step : (other : Word) (words : List (Bor Word)) (i : ℕ) (d : Bor Word) (opened next : Bool) → i < length words
+    → next ≡ (if bytes_eq (get_or words i d).now other then opened else awaits_value (word_kind (get_or words i d).now))
+    → is_open_but other false (texts words) ≡ is_open_but other opened (texts (drop i words)) → is_open_but other false (texts words) ≡ is_open_but other next (texts (drop (i + 1) words))
+open_step other words i d opened next within is so_far =
+    so_far ∙ ap (λ x. is_open_but other opened (texts x)) (drop_more words i d within) ∙ ap (λ b. is_open_but other b (texts (drop (i + 1) words))) (sym is)

@@ -1,5 +1,5 @@
--- A flag among the words of a command, as `--endless` of `serve`: an option that takes no value.
-use Rattle.std.specs.Prelude.{◌≡◌, ◌+◌, ◌++◌, ℕ, Bool, true, false, List, [], ◌∷◌, Option, Some, None, option_map, option_and_then, if◌then◌else◌, codes}
+-- A flag among the words of a command, as `--endless` and `--log` of `serve`: an option that takes no value.
+use Rattle.std.specs.Prelude.{◌≡◌, ◌+◌, ◌++◌, ℕ, Bool, true, false, List, [], ◌∷◌, Option, Some, None, option_map, option_and_then, if◌then◌else◌, codes, take, drop}
 use Rattle.std.specs.Str.{bytes_eq}
 use Rattle.command_words.specs.Words.{WordKind, option, word_kind, Arguments, arguments_after, Form, Values, values_of}
 
@@ -35,3 +35,14 @@ awaits_value _ = false
 abbrev pub is_open : Bool → List (List ℕ) → Bool
 is_open before [] = before
 is_open before (word ∷ words) = is_open (awaits_value (word_kind word)) words
+
+-- the same where this other flag may stand between an option and its value
+abbrev pub is_open_but : List ℕ → Bool → List (List ℕ) → Bool
+is_open_but other before [] = before
+is_open_but other before (word ∷ words) = is_open_but other (if bytes_eq word other then before else awaits_value (word_kind word)) words
+
+-- The other words than that at the place of a flag, as they are, where no option before it awaits its value. Another flag,
+-- which may stand before it, awaits none.
+abbrev pub words_without : List ℕ → List (List ℕ) → ℕ → Option (List (List ℕ))
+words_without other words place =
+    if is_open_but other false (take place words) then None else Some (take place words ++ drop (place + 1) words)

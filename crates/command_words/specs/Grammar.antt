@@ -2,7 +2,7 @@
 -- reader would have to know that parser; proofs/ shows once, for every form with different names, that `clap` agrees.
 --
 --     replay SCRIPT [PLAN] [--events N]
---     serve PLAN [--events N | --endless] [--idle SECONDS]
+--     serve PLAN [--events N | --endless] [--idle SECONDS] [--log]
 --     derive PLAN [--table]
 --     check DESCRIPTION
 --     consume DESCRIPTION OPERATION NAME [--scheme SCHEME] [--input FILE] [--count COUNT]
@@ -14,10 +14,10 @@ use Rattle.std.specs.Str.{bytes_eq}
 use Rattle.std.specs.Str.Parse.{digits_value}
 use Rattle.servient_base.specs.HostPorts.{point_in}
 use Rattle.command_words.specs.Words.{Form, Values, values_given, value_at}
-use Rattle.command_words.specs.Flags.{flag_place, values_around}
+use Rattle.command_words.specs.Flags.{flag_place, values_around, words_without}
 use Rattle.command_words.specs.declared.command.Budget.TheVariants.{Events, Endless}
 use Rattle.command_words.specs.declared.command.Command.{Command}
-use Rattle.command_words.specs.declared.command.Command.TheVariants.{Replay, Serve, Derive, Table, Check, Consume, Storm, Discover}
+use Rattle.command_words.specs.declared.command.Command.TheVariants.{Replay, Serve, ServeLogged, Derive, Table, Check, Consume, Storm, Discover}
 use Rattle.command_words.specs.declared.command.Consumption.{Consumption}
 use Rattle.command_words.specs.declared.command.Operation.{Operation}
 use Rattle.command_words.specs.declared.command.Operation.TheVariants as operation
@@ -124,8 +124,28 @@ abbrev pub serve_at : List (List ℕ) → Option ℕ → Option Command
 serve_at words None = option_and_then serve_of (values_given serve_form words)
 serve_at words (Some place) = option_and_then endless_of (values_around endless_form (take place words) (drop (place + 1) words))
 
+abbrev pub serve_by_budget : List (List ℕ) → Option Command
+serve_by_budget words = serve_at words (flag_place (codes "--endless") words)
+
+-- the same with a log, where it is `serve`
+abbrev pub logged : Command → Command
+logged (Serve plan budget idle) = ServeLogged plan budget idle
+logged (Replay script plan events) = Replay script plan events
+logged (ServeLogged plan budget idle) = ServeLogged plan budget idle
+logged (Derive plan) = Derive plan
+logged (Table plan) = Table plan
+logged (Check description) = Check description
+logged (Consume consumption) = Consume consumption
+logged (Storm seed events) = Storm seed events
+logged (Discover host port) = Discover host port
+
+-- and by the place of `--log` among them: what the other words mean, with a log
+abbrev pub log_at : List (List ℕ) → Option ℕ → Option Command
+log_at words None = serve_by_budget words
+log_at words (Some place) = option_map logged (option_and_then serve_by_budget (words_without (codes "--endless") words place))
+
 abbrev pub serve_meaning : List (List ℕ) → Option Command
-serve_meaning words = serve_at words (flag_place (codes "--endless") words)
+serve_meaning words = log_at words (flag_place (codes "--log") words)
 
 abbrev pub derive_form : Form
 derive_form = record { places = codes "plan" ∷ []; options = [] }

@@ -1,14 +1,14 @@
 //! The commands, and the words that say them.
 
 ghost use Rattle.std.specs.Prelude.{◌≡◌, IfOk, Some};
-ghost use Rattle.command_words.specs.Grammar.{check_form, check_of, consume_form, consume_of, consumption_of, derive_at, derive_form, derive_meaning, derive_of, discover_form, discover_of, meaning_after, meaning_by, meaning_of, replay_form, replay_of, serve_at, serve_form, serve_meaning, serve_of, storm_form, storm_of};
+ghost use Rattle.command_words.specs.Grammar.{check_form, check_of, consume_form, consume_of, consumption_of, derive_at, derive_form, derive_meaning, derive_of, discover_form, discover_of, log_at, logged as logged_command, meaning_after, meaning_by, meaning_of, replay_form, replay_of, serve_at, serve_by_budget as budget_meaning, serve_form, serve_meaning, serve_of, storm_form, storm_of};
 ghost use Rattle.command_words.specs.Flags.{IsFlagPlace};
 ghost use Rattle.command_words.specs.Operations.{form_operation};
 ghost use Rattle.command_words.specs.Parts.{Reads, texts};
 ghost use Rattle.command_words.specs.Line.{AreTexts};
 
 use crate::fault::WordsFault;
-use crate::flags::{place_of_flag, words_around};
+use crate::flags::{place_of_flag, words_around, words_without};
 use crate::parts::{
     events, file, idle, name, number, number_or, operation, optional, required, scheme, server,
 };
@@ -31,6 +31,12 @@ pub enum Command {
     /// Serves the Things of the plan until its budget of events is used up, or until `idle` seconds pass without traffic;
     /// 0 seconds is no such end.
     Serve {
+        plan: Text,
+        budget: Budget,
+        idle: u32,
+    },
+    /// Serves them so, and writes a line for each turn.
+    ServeLogged {
         plan: Text,
         budget: Budget,
         idle: u32,
@@ -174,6 +180,37 @@ fn replay(alloc: Global, words: &[&str]) -> Result<Command, WordsFault>
 fn serve(alloc: Global, words: &[&str]) -> Result<Command, WordsFault>
     requires { AreTexts (texts words.now) }
     ensures { Reads (serve_meaning (texts words.now)) result }
+{
+    match place_of_flag(words, "--log") {
+        Some(place) => serve_logged(alloc, words, place),
+        None => serve_by_budget(alloc, words),
+    }
+}
+
+/// `serve` with `--log` at this place among its words.
+fn serve_logged(alloc: Global, words: &[&str], place: usize) -> Result<Command, WordsFault>
+    requires text { AreTexts (texts words.now) }
+    requires place { IsFlagPlace (texts words.now) place }
+    ensures { Reads (log_at (texts words.now) (Some place)) result }
+{
+    let rest = words_without(alloc, words, place, "--endless")?;
+    let command = serve_by_budget(alloc, rest.as_slice())?;
+    Ok(logged(command))
+}
+
+/// The command with its turns logged, where it is one that serves.
+fn logged(command: Command) -> Command
+    ensures { result ≡ logged_command command }
+{
+    match command {
+        Command::Serve { plan, budget, idle } => Command::ServeLogged { plan, budget, idle },
+        other => other,
+    }
+}
+
+fn serve_by_budget(alloc: Global, words: &[&str]) -> Result<Command, WordsFault>
+    requires { AreTexts (texts words.now) }
+    ensures { Reads (budget_meaning (texts words.now)) result }
 {
     match place_of_flag(words, "--endless") {
         Some(place) => serve_endlessly(alloc, words, place),

@@ -1,10 +1,12 @@
-//! A flag among the words of a command, as `--endless` of `serve`. It takes no value, which `clap` is never asked about: the
+//! A flag among the words of a command, as `--endless` and `--log` of `serve`. It takes no value, which `clap` is never asked about: the
 //! word is found and taken out here, and `clap` reads the others.
 
 ghost use Rattle.std.specs.Prelude.{◌≡◌, ◌++◌, ◌+◌, ◌<◌, false, length, take, drop, Some, None, IfOk, MatchResult};
 ghost use Rattle.command_words.specs.Words.{arguments_after, word_kind};
 ghost use Rattle.command_words.specs.declared.fault.WordsFault.TheVariants.{Usage};
-ghost use Rattle.command_words.specs.Flags.{arguments_around, awaits_value as awaits, flag_place, is_open, IsFlagPlace};
+ghost use Rattle.std.specs.Prelude.{if◌then◌else◌};
+ghost use Rattle.std.specs.Str.{bytes_eq};
+ghost use Rattle.command_words.specs.Flags.{arguments_around, awaits_value as awaits, flag_place, is_open, is_open_but, words_without as without, IsFlagPlace};
 ghost use Rattle.command_words.specs.Line.{AreTexts};
 ghost use Rattle.command_words.specs.Parts.{texts};
 
@@ -45,6 +47,57 @@ pub fn words_around<'a>(
         return Err(WordsFault::Usage);
     }
     Ok(words_but(alloc, words, place)?)
+}
+
+/// The other words than that at the place of a flag, as they are. They are refused where an option before it would have
+/// its value behind it; `other` is a flag that may stand before it, too.
+pub fn words_without<'a>(
+    alloc: Global,
+    words: &[&'a str],
+    place: usize,
+    other: &str,
+) -> Result<Vec<&'a str>, WordsFault>
+    requires text { AreTexts (texts words.now) }
+    requires place { IsFlagPlace (texts words.now) place }
+    ensures text { IfOk result (λ rest. AreTexts (texts rest.items)) }
+    ensures words { MatchResult result
+        (λ rest. without other.now (texts words.now) place ≡ Some (texts rest.items))
+        (λ fault. fault ≡ Usage → without other.now (texts words.now) place ≡ None) }
+{
+    if is_open_before(words, place, other) {
+        return Err(WordsFault::Usage);
+    }
+    Ok(words_but(alloc, words, place)?)
+}
+
+/// An option before this place awaits its value, where this flag awaits none.
+fn is_open_before(words: &[&str], place: usize, other: &str) -> bool
+    requires { place < length words.now }
+    ensures { result ≡ is_open_but other.now false (take place (texts words.now)) }
+{
+    let (before, _) = words.split_at(place);
+    is_open_after(before, other)
+}
+
+/// The same after some words.
+fn is_open_after(words: &[&str], other: &str) -> bool
+    ensures { result ≡ is_open_but other.now false (texts words.now) }
+{
+    let mut open = false;
+    for word in words {
+        open = opens(open, word, other);
+    }
+    open
+}
+
+/// An option awaits its value after this word, where one did or didn't before it.
+fn opens(before: bool, word: &str, other: &str) -> bool
+    ensures { result ≡ (if bytes_eq word.now other.now then before else awaits (word_kind word.now)) }
+{
+    if word == other {
+        return before;
+    }
+    awaits_value(word)
 }
 
 /// The word before this place is an option that awaits its value.

@@ -1,5 +1,5 @@
 -- The whole call: what its words lead to, and how it ends where nothing is wrong.
-use Rattle.std.proofs.Common.{true, false, ◌≡◌, ◌≤◌, ◌⊎◌, ℕ, List, [], ◌∷◌, length, Result, Err, Option, Some, None, refl, sym, ap, ◌∙◌, subst, inl, inr}
+use Rattle.std.proofs.Common.{Bool, true, false, ◌≡◌, ◌≤◌, ◌⊎◌, ℕ, List, [], ◌∷◌, length, Result, Err, Option, Some, None, refl, sym, ap, ◌∙◌, subst, arith, inl, inr}
 use Rattle.std.proofs.lemmas.Option.{same_Some}
 use Rattle.wot_json.specs.Tree.{Json}
 use Rattle.wot_json.specs.Meaning.{json_of}
@@ -13,7 +13,7 @@ use Rattle.servient_trace.specs.Trace.{happened_in}
 use Rattle.command_stages.specs.declared.inputs.Inputs.{Inputs}
 use Rattle.command_words.specs.Grammar.{meaning_of}
 use Rattle.command_words.specs.declared.command.Command.{Command}
-use Rattle.command_words.specs.declared.command.Command.TheVariants.{Replay, Serve, Derive, Table, Check, Consume, Storm, Discover}
+use Rattle.command_words.specs.declared.command.Command.TheVariants.{Replay, Serve, ServeLogged, Derive, Table, Check, Consume, Storm, Discover}
 use Rattle.command_stages.specs.Stages.{Deed, did_write, sightings_in, HasFailed, Outcome, ends, Around}
 use Rattle.command_stages.specs.declared.ending.Ending.{Ending}
 use Rattle.command_stages.specs.declared.ending.Ended.{Ended}
@@ -31,19 +31,22 @@ use Rattle.servient_cli.specs.Replaying.{run_events, RunsOn}
 use Rattle.command_stages.specs.Checking.{Checks, IsFaultlessDescription, Judges}
 use Rattle.command_stages.specs.Deriving.{ReadsPlanned, Derives, derived_of, Prints, DerivesAndPrints}
 use Rattle.command_stages.specs.Tabling.{PrintsTable, Tables}
+use Rattle.servient_outside.specs.declared.out.Put.TheVariants as put
 use Rattle.servient_outside.specs.Out.{OutSeen, NoWriteFailed}
-use Rattle.servient_cli.specs.Command.{reads_files, IsFaultless, HasFaultlessFiles, IsReported, Ends, NothingFailed, IsAnswered, IsWell, Does, Commands, EndsAndReports, is_asking, is_discovering, is_networked, is_serving, is_no_command, is_command, words_memory}
+use Rattle.servient_cli.specs.Command.{reads_files, IsFaultless, HasFaultlessFiles, IsReported, Ends, NothingFailed, IsAnswered, IsWell, Does, Commands, EndsAndReports, is_asking, is_discovering, is_logging, is_networked, is_serving, is_writing, is_no_command, is_command, words_memory}
 use Rattle.command_stages.proofs.FaultlessReading.{GoesOn, EndsWell, by_memory, same_status, HasTrouble, what_trouble, rose_some, then_well, read_well, tree_well, judge_well, derive_well, print_well}
 use Rattle.command_stages.specs.declared.derivation.Planned.{Planned}
 use Rattle.servient_cli.proofs.FaultlessStages.{planned_well, with_events, inputs_well, run_on_well, table_well}
 use Rattle.servient_base.specs.Count.{Rose}
 use Rattle.servient_cli.proofs.FaultlessConsuming.{IsConsumed, MayEnd, consume_well, discover_well}
 use Rattle.servient_cli.proofs.ServedStages.{IsServed, serving_well}
+use Rattle.servient_cli.proofs.LoggedStages.{IsLogged, logging_well}
+use Rattle.servient_cli.proofs.ConsumingStages.{line_in_turn, turn_reported}
 use Rattle.servient_cli.proofs.StormStages.{storm_well}
 
--- the command did what it is for, was out of memory, served and has spent its budget, or asked others
+-- the command did what it is for, was out of memory, served and has spent its budget, asked others, or couldn't write its log
 abbrev IsDoneBy : Option Command → Outcome (Unit {0}) → Type 0
-IsDoneBy command o = EndsWell o ⊎ ((is_serving command ≡ true) × (o ≡ ends 8)) ⊎ ((is_asking command ≡ true) × IsConsumed o)
+IsDoneBy command o = EndsWell o ⊎ ((is_serving command ≡ true) × (o ≡ ends 8)) ⊎ ((is_asking command ≡ true) × IsConsumed o) ⊎ ((is_logging command ≡ true) × (o ≡ ends 7))
 
 abbrev IsDone : Command → Outcome (Unit {0}) → Type 0
 IsDone command o = IsDoneBy (Some command) o
@@ -52,6 +55,12 @@ served_done : (plan : List ℕ) (budget : Budget) (idle : ℕ) (o : Outcome (Uni
 served_done plan budget idle o (inl zero_is) = inl (inl zero_is)
 served_done plan budget idle o (inr (inl nine)) = inl (inr nine)
 served_done plan budget idle o (inr (inr eight)) = inr (inl (refl, eight))
+
+logged_done : (plan : List ℕ) (budget : Budget) (idle : ℕ) (o : Outcome (Unit {0})) → IsLogged o → IsDone (ServeLogged plan budget idle) o
+logged_done plan budget idle o (inl (inl zero_is)) = inl (inl zero_is)
+logged_done plan budget idle o (inl (inr (inl nine))) = inl (inr nine)
+logged_done plan budget idle o (inl (inr (inr eight))) = inr (inl (refl, eight))
+logged_done plan budget idle o (inr seven) = inr (inr (inr (refl, seven)))
 
 -- a command with whose files nothing is wrong
 does_well : (held : Option (List HeldFile)) (files : List HeldFile) (kinds : List Kind) (command : Command) (seen : List Deed) (o : Outcome (Unit {0})) → (reads_files command ≡ true → held ≡ Some files) → HasFaultlessFiles files kinds command → ¬ (HasTrouble seen) → Does held kinds command seen o → IsDone command o
@@ -86,8 +95,9 @@ does_well held files kinds (Table plan) seen o is_held fine quiet stage = inl (
     (λ ts are s2 q2 st2. table_well plan kinds p.plan ts s2 o
     (ap (expose_faults kinds p.plan.slots) are ∙ ap (λ (x : Planned). expose_faults kinds x.plan.slots fine.things) same ∙ fine.fits) st2) st) stage)
 does_well held files kinds (Serve plan budget idle) seen o is_held fine quiet stage = served_done plan budget idle o (serving_well held files kinds plan budget idle fine seen o (is_held refl) quiet stage)
-does_well held files kinds (Consume consumption) seen o is_held fine quiet stage = inr (inr (refl, consume_well held files consumption fine seen o (is_held refl) quiet stage))
-does_well held files kinds (Discover host port) seen o is_held fine quiet stage = inr (inr (refl, discover_well host port seen o quiet stage))
+does_well held files kinds (ServeLogged plan budget idle) seen o is_held fine quiet stage = logged_done plan budget idle o (logging_well held files kinds plan budget idle fine seen o (is_held refl) quiet stage)
+does_well held files kinds (Consume consumption) seen o is_held fine quiet stage = inr (inr (inl (refl, consume_well held files consumption fine seen o (is_held refl) quiet stage)))
+does_well held files kinds (Discover host port) seen o is_held fine quiet stage = inr (inr (inl (refl, discover_well host port seen o quiet stage)))
 does_well held files kinds (Storm seed events) seen o is_held fine quiet stage = inl (storm_well kinds seed events fine seen o quiet stage)
 
 command_well : (held : Option (List HeldFile)) (kinds : List Kind) (words : List (List ℕ)) (seen : List Deed) (o : Outcome (Unit {0})) → IsFaultless words held kinds → ¬ (HasTrouble seen) → Commands held kinds words seen o
@@ -101,8 +111,8 @@ command_well held kinds words seen o fine quiet (is_command command meaning does
 command_well held kinds words seen o fine quiet (words_memory out) = inl (inr out.1)
 
 -- the end of stages, and the report of it
-pub stages_reported : (P : List Deed → Outcome (Unit {0}) → Type 0) (before now : Around) (out out_now : OutSeen) (r : Result Ending Ended) (result : ℕ) → EndsBy P before now r → IsReported (final_status r) (final_text r) out out_now result → NoWriteFailed out out_now (final_text r) → EndsAndReports P before now out out_now result
-stages_reported P before now out out_now r result ended reported fits =
+pub stages_reported : (logs : Bool) (P : List Deed → Outcome (Unit {0}) → Type 0) (before now : Around) (out out_now : OutSeen) (r : Result Ending Ended) (result : ℕ) → logs ≡ false → EndsBy P before now r → IsReported (final_status r) (final_text r) out out_now result → NoWriteFailed out out_now (final_text r) → EndsAndReports logs P before now out out_now result
+stages_reported logs P before now out out_now r result none ended reported fits =
     let comes = ends_so P before now r ended in
     record {
       seen = comes.seen;
@@ -111,47 +121,65 @@ stages_reported P before now out out_now r result ended reported fits =
       shows = comes.shows;
       reported = subst (λ (t : List ℕ). IsReported (final_status r) t out out_now result) (sym comes.text_is) reported;
       no_failure = subst (λ (t : List ℕ). NoWriteFailed out out_now t) (sym comes.text_is) fits;
+      in_turn = λ is. absurd (not_both logs none is);
     }
+  where
+    not_both : (b : Bool) → b ≡ false → b ≡ true → ⊥
+    not_both false is isnt = cc
+    not_both true is isnt = cc
 
 -- the whole call, from what was done with its command
-pub command_ends : (words : List (List ℕ)) (before now : Around) (out out_now : OutSeen) (command : Command) (result : ℕ) → meaning_of words ≡ Some command → EndsAndReports (Does before.files.held (kinds_of before.outside.slots) command) before now out out_now result → Ends words before now out out_now result
-command_ends words before now out out_now command result meaning e = record { seen = e.seen; status = e.status; stage = is_command command meaning e.stage; shows = e.shows; reported = e.reported; no_failure = e.no_failure }
+pub command_ends : (words : List (List ℕ)) (before now : Around) (out out_now : OutSeen) (command : Command) (result : ℕ) → meaning_of words ≡ Some command → EndsAndReports (is_logging (Some command)) (Does before.files.held (kinds_of before.outside.slots) command) before now out out_now result → Ends words before now out out_now result
+command_ends words before now out out_now command result meaning e = record { seen = e.seen; status = e.status; stage = is_command command meaning e.stage; shows = e.shows; reported = e.reported; no_failure = e.no_failure; in_turn = λ is. e.in_turn (ap is_logging (sym meaning) ∙ is) }
 
--- of a command that asks no others
-pub built_ends : (words : List (List ℕ)) (before now : Around) (out out_now : OutSeen) (command : Command) (r : Result Ending Ended) (result : ℕ) → meaning_of words ≡ Some command → EndsBy (Does before.files.held (kinds_of before.outside.slots) command) before now r → IsReported (final_status r) (final_text r) out out_now result
+logs_not : (command : Command) → is_writing (Some command) ≡ false → is_logging (Some command) ≡ false
+logs_not (Replay script plan events) is = refl
+logs_not (Serve plan budget idle) is = refl
+logs_not (ServeLogged plan budget idle) is = absurd cc
+logs_not (Check description) is = refl
+logs_not (Derive plan) is = refl
+logs_not (Table plan) is = refl
+logs_not (Storm seed events) is = refl
+logs_not (Consume consumption) is = refl
+logs_not (Discover host port) is = refl
+
+-- of a command that writes at its end alone
+pub built_ends : (words : List (List ℕ)) (before now : Around) (out out_now : OutSeen) (command : Command) (r : Result Ending Ended) (result : ℕ) → meaning_of words ≡ Some command → is_writing (Some command) ≡ false → EndsBy (Does before.files.held (kinds_of before.outside.slots) command) before now r → IsReported (final_status r) (final_text r) out out_now result
     → NoWriteFailed out out_now (final_text r) → Ends words before now out out_now result
-built_ends words before now out out_now command r result meaning ended reported fits =
-    command_ends words before now out out_now command result meaning (stages_reported (Does before.files.held (kinds_of before.outside.slots) command) before now out out_now r result ended reported fits)
+built_ends words before now out out_now command r result meaning other ended reported fits =
+    command_ends words before now out out_now command result meaning (stages_reported (is_logging (Some command)) (Does before.files.held (kinds_of before.outside.slots) command) before now out out_now r result (logs_not command other) ended reported fits)
 
-asking_networked : (command : Command) → is_asking (Some command) ≡ true → is_networked (Some command) ≡ true
-asking_networked (Replay script plan events) is = absurd cc
-asking_networked (Serve plan budget idle) is = absurd cc
-asking_networked (Check description) is = absurd cc
-asking_networked (Derive plan) is = absurd cc
-asking_networked (Table plan) is = absurd cc
-asking_networked (Storm seed events) is = absurd cc
-asking_networked (Consume consumption) is = refl
-asking_networked (Discover host port) is = refl
+writing_networked : (command : Command) → is_writing (Some command) ≡ true → is_networked (Some command) ≡ true
+writing_networked (Replay script plan events) is = absurd cc
+writing_networked (Serve plan budget idle) is = absurd cc
+writing_networked (ServeLogged plan budget idle) is = refl
+writing_networked (Check description) is = absurd cc
+writing_networked (Derive plan) is = absurd cc
+writing_networked (Table plan) is = absurd cc
+writing_networked (Storm seed events) is = absurd cc
+writing_networked (Consume consumption) is = refl
+writing_networked (Discover host port) is = refl
 
-pub asking_uses_network : (words : List (List ℕ)) (command : Command) → meaning_of words ≡ Some command → is_asking (Some command) ≡ true → is_networked (meaning_of words) ≡ false → ⊥
-asking_uses_network words command meaning is none = let bad : true ≡ false = sym (asking_networked command is) ∙ ap is_networked (sym meaning) ∙ none in cc
+pub writing_uses_network : (words : List (List ℕ)) (command : Command) → meaning_of words ≡ Some command → is_writing (Some command) ≡ true → is_networked (meaning_of words) ≡ false → ⊥
+writing_uses_network words command meaning is none = let bad : true ≡ false = sym (writing_networked command is) ∙ ap is_networked (sym meaning) ∙ none in cc
 
-discovering_asks : (command : Command) → is_discovering (Some command) ≡ true → is_asking (Some command) ≡ true
-discovering_asks (Replay script plan events) is = absurd cc
-discovering_asks (Serve plan budget idle) is = absurd cc
-discovering_asks (Check description) is = absurd cc
-discovering_asks (Derive plan) is = absurd cc
-discovering_asks (Table plan) is = absurd cc
-discovering_asks (Storm seed events) is = absurd cc
-discovering_asks (Consume consumption) is = refl
-discovering_asks (Discover host port) is = refl
+discovering_writes : (command : Command) → is_discovering (Some command) ≡ true → is_writing (Some command) ≡ true
+discovering_writes (Replay script plan events) is = absurd cc
+discovering_writes (Serve plan budget idle) is = absurd cc
+discovering_writes (ServeLogged plan budget idle) is = absurd cc
+discovering_writes (Check description) is = absurd cc
+discovering_writes (Derive plan) is = absurd cc
+discovering_writes (Table plan) is = absurd cc
+discovering_writes (Storm seed events) is = absurd cc
+discovering_writes (Consume consumption) is = refl
+discovering_writes (Discover host port) is = refl
 
-pub other_is_not : (words : List (List ℕ)) (command : Command) → meaning_of words ≡ Some command → is_asking (Some command) ≡ false → is_asking (meaning_of words) ≡ false
-other_is_not words command meaning is = ap is_asking meaning ∙ is
+pub other_is_not : (words : List (List ℕ)) (command : Command) → meaning_of words ≡ Some command → is_writing (Some command) ≡ false → is_writing (meaning_of words) ≡ false
+other_is_not words command meaning is = ap is_writing meaning ∙ is
 
-pub other_discovers_not : (words : List (List ℕ)) (command : Command) → meaning_of words ≡ Some command → is_asking (Some command) ≡ false → is_discovering (meaning_of words) ≡ true → ⊥
+pub other_discovers_not : (words : List (List ℕ)) (command : Command) → meaning_of words ≡ Some command → is_writing (Some command) ≡ false → is_discovering (meaning_of words) ≡ true → ⊥
 other_discovers_not words command meaning is discovers =
-    let bad : true ≡ false = sym (discovering_asks command (ap is_discovering (sym meaning) ∙ discovers)) ∙ is in cc
+    let bad : true ≡ false = sym (discovering_writes command (ap is_discovering (sym meaning) ∙ discovers)) ∙ is in cc
 
 -- of words that are refused
 pub refusal_ends : (words : List (List ℕ)) (a : Around) (out out_now : OutSeen) (fault : WordsFault) (e : Ended) (result : ℕ) → Reads {A = Command} (meaning_of words) (Err fault) → EndsAs fault e → IsReported (status_of e) (text_of e) out out_now result → NoWriteFailed out out_now (text_of e) → Ends words a a out out_now result
@@ -162,6 +190,8 @@ refusal_ends words a out out_now Usage e result refused ends_as reported fits = 
   shows = shows_wrote a usage_line;
   reported = subst (λ (t : List ℕ). IsReported 2 t out out_now result) (sym (line_alone usage_line)) (subst (λ (x : Ended). IsReported (status_of x) (text_of x) out out_now result) ends_as reported);
   no_failure = subst (λ (t : List ℕ). NoWriteFailed out out_now t) (sym (line_alone usage_line)) (subst (λ (x : Ended). NoWriteFailed out out_now (text_of x)) ends_as fits);
+  in_turn = λ is. turn_reported (did_write usage_line ∷ []) usage_line 2 put.Done out out out_now result (line_in_turn out usage_line) (λ fails. absurd cc) (λ seven. absurd (omega (arith, seven)))
+      (subst (λ (x : Ended). IsReported (status_of x) (text_of x) out out_now result) ends_as reported);
 }
 refusal_ends words a out out_now NoMemory e result refused ends_as reported fits = record {
   seen = did_write memory_line ∷ [];
@@ -170,6 +200,8 @@ refusal_ends words a out out_now NoMemory e result refused ends_as reported fits
   shows = shows_wrote a memory_line;
   reported = subst (λ (t : List ℕ). IsReported 9 t out out_now result) (sym (line_alone memory_line)) (subst (λ (x : Ended). IsReported (status_of x) (text_of x) out out_now result) ends_as reported);
   no_failure = subst (λ (t : List ℕ). NoWriteFailed out out_now t) (sym (line_alone memory_line)) (subst (λ (x : Ended). NoWriteFailed out out_now (text_of x)) ends_as fits);
+  in_turn = λ is. turn_reported (did_write memory_line ∷ []) memory_line 9 put.Done out out out_now result (line_in_turn out memory_line) (λ fails. absurd cc) (λ seven. absurd (omega (arith, seven)))
+      (subst (λ (x : Ended). IsReported (status_of x) (text_of x) out out_now result) ends_as reported);
 }
 
 pub refusal_is : (words : List (List ℕ)) (fault : WordsFault) → Reads {A = Command} (meaning_of words) (Err fault) → fault ≡ Usage → meaning_of words ≡ None
@@ -183,7 +215,8 @@ ends_well words before now out out_now result e fine kept output = elim e.report
     | inl (inl well) ↦ inl (done.0 ∙ same_status e.status 0 well)
     | inl (inr nine) ↦ inr (inl (done.0 ∙ same_status e.status 9 nine))
     | inr (inl spent) ↦ inr (inr (inl (spent.0, done.0 ∙ same_status e.status 8 spent.1)))
-    | inr (inr (consumes, (n, is, may))) ↦ consumed_well consumes n (done.0 ∙ same_status e.status n is) may
+    | inr (inr (inl (consumes, (n, is, may)))) ↦ consumed_well consumes n (done.0 ∙ same_status e.status n is) may
+    | inr (inr (inr seven)) ↦ absurd (kept.no_write (output (done.0 ∙ same_status e.status 7 seven.1)))
   ]
   | inr failed ↦ absurd (kept.no_write failed.1)
 ]

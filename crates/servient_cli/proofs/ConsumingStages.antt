@@ -1,5 +1,5 @@
 -- `consume` and `discover`: what an operation does as what a command does, and what was written before the end.
-use Rattle.std.proofs.Common.{◌≡◌, ◌≤◌, ◌∙◌, ℕ, List, [], ◌∷◌, ◌++◌, Option, Result, Ok, Err, refl, sym, ap, subst, arith, inl, inr, append_assoc}
+use Rattle.std.proofs.Common.{◌≡◌, ◌≤◌, ◌∙◌, ℕ, Bool, true, List, [], ◌∷◌, ◌++◌, Option, Result, Ok, Err, refl, sym, ap, subst, arith, inl, inr, append_assoc}
 use Rattle.std.specs.Prelude.{map, IfOk, MatchResult}
 use Rattle.std.specs.declared.alloc.AllocError.{AllocError}
 use Rattle.std.proofs.lemmas.Grind.{flat_map-append}
@@ -47,6 +47,7 @@ use Rattle.servient_cli.specs.Command.{IsReported, EndsAndReports}
 use Rattle.command_stages.specs.Describing.{ReadsDescription}
 use Rattle.servient_cli.specs.Consuming.{ConsumesBy, ConsumesThing, Chooses, is_chosen, has_no_affordance, has_no_form, choose_memory, OperatesOn, deeds_of, line_after, status_after, IsAskedFor, EndsAfter, has_ended, line_memory, IsOperated, Operates, IsEndOf, EndsPrinting}
 use Rattle.command_stages.proofs.StageLaws.{line_alone, shows_network, shows_then, shows_wrote}
+use Rattle.servient_cli.specs.LoggedServing.{EndsInTurn, IsInTurn, TookNothing, WritesInTurn}
 use Rattle.servient_cli.proofs.UsageStages.{EndsPlainly, description_not, choose_not}
 
 -- ---- an operation's deeds as those of a command
@@ -139,7 +140,11 @@ outcome_ends x (Err none) e is comes = inr ((λ no. absurd cc), ap status_of com
 
 -- ---- one stage after another
 
-pub error_prints : {A : Type 0} (P : List Deed → Outcome A → Type 0) (Q : A → List Deed → Outcome (Unit {0}) → Type 0) (a b : Around) (o : OutSeen) (e : Ended)
+-- nothing that was done has failed
+pub done_not : {A : Type 0} → put.Done ≡ put.Failed → A
+done_not failed = absurd cc
+
+abbrev pub error_prints : {A : Type 0} (P : List Deed → Outcome A → Type 0) (Q : A → List Deed → Outcome (Unit {0}) → Type 0) (a b : Around) (o : OutSeen) (e : Ended)
     → ((s : List Deed) (r : Outcome A) → P s r → EndsPlainly r) → Performs P a b (Err e) → EndsPrinting (AndThen P Q) a b o o (Err e)
 error_prints P Q a b o e plain p = record {
   seen = p.seen;
@@ -149,11 +154,11 @@ error_prints P Q a b o e plain p = record {
   answer = put.Done;
   wrote = out_none o;
   text_is = p.text_is;
-  failed = λ failed. absurd cc;
+  failed = λ failed. done_not failed;
   unprinted = λ seven. absurd ((plain p.seen (ends (status_of e)) p.stage).1 seven);
 }
 
-pub then_prints : {A : Type 0} (P : List Deed → Outcome A → Type 0) (Q : A → List Deed → Outcome (Unit {0}) → Type 0) (a b c : Around) (o q : OutSeen) (value : A) (r : Result Ending Ended) → ComesOut P a b (goes_on value) [] → EndsPrinting (Q value) b c o q r → EndsPrinting (AndThen P Q) a c o q r
+abbrev pub then_prints : {A : Type 0} (P : List Deed → Outcome A → Type 0) (Q : A → List Deed → Outcome (Unit {0}) → Type 0) (a b c : Around) (o q : OutSeen) (value : A) (r : Result Ending Ended) → ComesOut P a b (goes_on value) [] → EndsPrinting (Q value) b c o q r → EndsPrinting (AndThen P Q) a c o q r
 then_prints P Q a b c o q value r first second = record {
   seen = first.seen ++ second.seen;
   stage = goes_further (value, record { mid = tt; first = first.seen; second = second.seen; one = first.stage; other = second.stage; whole = refl });
@@ -165,6 +170,43 @@ then_prints P Q a b c o q value r first second = record {
   failed = second.failed;
   unprinted = second.unprinted;
 }
+
+-- what is written in turn by stages before serving, and after them
+
+pub error_in_turn : {A : Type 0} (P : List Deed → Outcome A → Type 0) (Q : A → List Deed → Outcome (Unit {0}) → Type 0) (a b : Around) (o : OutSeen) (e : Ended)
+    → ((s : List Deed) (r : Outcome A) → P s r → EndsPlainly r) → ((s : List Deed) (r : Outcome A) → P s r → TookNothing s) → Performs P a b (Err e) → EndsInTurn (AndThen P Q) a b o o (Err e)
+error_in_turn P Q a b o e plain untaken p = (
+  error_prints P Q a b o e plain p,
+  record {
+    first = [];
+    later = p.seen;
+    whole = refl;
+    untaken = untaken p.seen (ends (status_of e)) p.stage;
+    part = [];
+    rest = text_of e;
+    text_is = p.text_is;
+    wrote = continues_same o.written;
+    left = λ done. refl;
+  },
+)
+
+pub then_in_turn : {A : Type 0} (P : List Deed → Outcome A → Type 0) (Q : A → List Deed → Outcome (Unit {0}) → Type 0) (a b c : Around) (o q : OutSeen) (value : A) (r : Result Ending Ended) → ComesOut P a b (goes_on value) [] → EndsInTurn (Q value) b c o q r → EndsInTurn (AndThen P Q) a c o q r
+then_in_turn P Q a b c o q value r first second =
+    let t = second.1 in (
+      then_prints P Q a b c o q value r first second.0,
+      record {
+        first = first.seen ++ t.first;
+        later = t.later;
+        whole = ap (λ (x : List Deed). first.seen ++ x) t.whole ∙ sym (append_assoc first.seen t.first t.later);
+        untaken = t.untaken;
+        part = t.part;
+        rest = t.rest;
+        text_is = t.text_is;
+        wrote = subst (λ (x : List ℕ). Continues o.written q.written (x ++ t.part))
+            (sym (flat_map-append written_in first.seen t.first ∙ ap (λ (x : List ℕ). x ++ text_in t.first) first.text_is)) t.wrote;
+        left = t.left;
+      },
+    )
 
 -- ---- the report
 
@@ -213,16 +255,71 @@ printed_then (x ∷ printed) text status put.Failed out out_now later result wro
     )
 printed_then printed text status put.Failed out out_now later result wrote failed more (inr broke) = absurd (broke.2 (failed refl).1)
 
+-- a line that is to be written alone
+pub line_in_turn : (out : OutSeen) (line : List ℕ) → IsInTurn out out (did_write line ∷ []) line put.Done
+line_in_turn out line = record {
+  first = [];
+  later = did_write line ∷ [];
+  whole = refl;
+  untaken = refl;
+  part = [];
+  rest = line;
+  text_is = line_alone line;
+  wrote = continues_same out.written;
+  left = λ done. refl;
+}
+
+-- texts that were written in turn, and the report after them
+pub turn_reported : (seen : List Deed) (text : List ℕ) (status : ℕ) (p : Put) (out out_now later : OutSeen) (result : ℕ) → IsInTurn out out_now seen text p → (p ≡ put.Failed → (status ≡ 7) × (text ≡ [])) → (status ≡ 7 → p ≡ put.Failed) → IsReported status text out_now later result → WritesInTurn out later seen result
+turn_reported seen text status put.Done out out_now later result t failed unprinted (inl done) = record {
+  first = t.first;
+  later = t.later;
+  whole = t.whole;
+  untaken = t.untaken;
+  part = t.part ++ text;
+  rest = [];
+  text_is = t.text_is ∙ ap (λ (x : List ℕ). t.part ++ x) (t.left refl) ∙ sym (append-nil (t.part ++ text));
+  wrote = subst (λ (x : List ℕ). Continues out.written later.written x) (append_assoc (text_in t.first) t.part text)
+      (continues_then out.written out_now.written later.written (text_in t.first ++ t.part) text t.wrote done.1);
+  all = λ not_seven. refl;
+}
+turn_reported seen text status put.Done out out_now later result t failed unprinted (inr broke) = record {
+  first = t.first;
+  later = t.later;
+  whole = t.whole;
+  untaken = t.untaken;
+  part = t.part ++ broke.3;
+  rest = broke.4;
+  text_is = t.text_is ∙ ap (λ (x : List ℕ). t.part ++ x) (t.left refl ∙ broke.5) ∙ sym (append_assoc t.part broke.3 broke.4);
+  wrote = subst (λ (x : List ℕ). Continues out.written later.written x) (append_assoc (text_in t.first) t.part broke.3)
+      (continues_then out.written out_now.written later.written (text_in t.first ++ t.part) broke.3 t.wrote broke.6);
+  all = λ not_seven. absurd (not_seven broke.0);
+}
+turn_reported seen text status put.Failed out out_now later result t failed unprinted (inl done) = record {
+  first = t.first;
+  later = t.later;
+  whole = t.whole;
+  untaken = t.untaken;
+  part = t.part;
+  rest = t.rest;
+  text_is = t.text_is;
+  wrote = subst (λ (x : List ℕ). Continues out.written later.written x) (append-nil (text_in t.first ++ t.part))
+      (continues_then out.written out_now.written later.written (text_in t.first ++ t.part) [] t.wrote (subst (λ (x : List ℕ). Continues out_now.written later.written x) (failed refl).1 done.1));
+  all = λ not_seven. absurd (not_seven (done.0 ∙ (failed refl).0));
+}
+turn_reported seen text status put.Failed out out_now later result t failed unprinted (inr broke) = absurd (broke.2 (failed refl).1)
+
 -- the writes before the end, and then the report
-pub printing_reported : (P : List Deed → Outcome (Unit {0}) → Type 0) (before now : Around) (out out_now later : OutSeen) (r : Result Ending Ended) (result : ℕ) → EndsPrinting P before now out out_now r → IsReported (final_status r) (final_text r) out_now later result → out_now.faults ≤ later.faults
-    → NoWriteFailed out_now later (final_text r) → EndsAndReports P before now out later result
-printing_reported P before now out out_now later r result e reported more fits = record {
+pub printing_reported : (logs : Bool) (P : List Deed → Outcome (Unit {0}) → Type 0) (before now : Around) (out out_now later : OutSeen) (r : Result Ending Ended) (result : ℕ) → (e : EndsPrinting P before now out out_now r) → (logs ≡ true → IsInTurn out out_now e.seen (final_text r) e.answer) → IsReported (final_status r) (final_text r) out_now later result
+    → out_now.faults ≤ later.faults → NoWriteFailed out_now later (final_text r) → EndsAndReports logs P before now out later result
+printing_reported logs P before now out out_now later r result e in_turn reported more fits = record {
   seen = e.seen;
   status = final_status r;
   stage = e.stage;
   shows = e.shows;
   reported = subst (λ (t : List ℕ). IsReported (final_status r) t out later result) (sym e.text_is) (printed_then e.printed (final_text r) (final_status r) e.answer out out_now later result e.wrote e.failed more reported);
   no_failure = subst (λ (t : List ℕ). NoWriteFailed out later t) (sym e.text_is) (no_write_failed_then out out_now later e.answer e.printed (final_text r) e.wrote.fits fits);
+  in_turn = λ is. turn_reported e.seen (final_text r) (final_status r) e.answer out out_now later result (in_turn is) e.failed e.unprinted reported;
 }
 
 -- it is reported by 7 where the output failed alone

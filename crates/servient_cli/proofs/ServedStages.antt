@@ -34,14 +34,14 @@ served_memory : (o : Outcome (Unit {0})) → o ≡ ends 9 → IsServed o
 served_memory o nine = inr (inl nine)
 
 -- where listening doesn't fail, it listens
-listen_well : (place : Place) (seen : List Deed) (o : Outcome (Unit {0})) → ¬ (HasTrouble seen) → Listens place seen o → GoesOn (λ u. Unit {0}) o
+pub listen_well : (place : Place) (seen : List Deed) (o : Outcome (Unit {0})) → ¬ (HasTrouble seen) → Listens place seen o → GoesOn (λ u. Unit {0}) o
 listen_well place seen o quiet (is_listening saw goes) = inl (tt, tt, goes)
 listen_well place seen o quiet (cannot_listen end) = absurd (quiet (subst HasTrouble (sym end.0) tt))
 listen_well place seen o quiet (place_memory end) = inr end.1
 listen_well place seen o quiet (listen_memory end) = inr end.1
 
 -- serving that fails is a break of the network
-sees-append : (a b : List Sighting) → sees (a ++ b) ≡ sees a ++ sees b
+pub sees-append : (a b : List Sighting) → sees (a ++ b) ≡ sees a ++ sees b
 sees-append [] b = refl
 sees-append (sighting ∷ a) b = ap (λ (more : List Deed). did_see sighting ∷ more) (sees-append a b)
 

@@ -10,7 +10,7 @@ use Rattle.servient_plan.specs.declared.plan.Plan.{Plan}
 use Rattle.thing_site.specs.Exposing.{kinds_of}
 use Rattle.command_words.specs.Grammar.{meaning_of}
 use Rattle.command_words.specs.declared.command.Command.{Command}
-use Rattle.command_words.specs.declared.command.Command.TheVariants.{Replay, Serve, Derive, Table, Check, Consume, Storm, Discover}
+use Rattle.command_words.specs.declared.command.Command.TheVariants.{Replay, Serve, ServeLogged, Derive, Table, Check, Consume, Storm, Discover}
 use Rattle.thing_handler.specs.Turns.{turns_in}
 use Rattle.servient_outside.specs.declared.files.HeldFile.{HeldFile}
 use Rattle.servient_outside.specs.declared.net.What.{What}
@@ -170,6 +170,7 @@ storm_not kinds seed n seen o stage =
 command_not : (held : Option (List HeldFile)) (kinds : List Kind) (command : Command) (seen : List Deed) (o : Outcome (Unit {0})) → is_storm (Some command) ≡ true → Does held kinds command seen o → NotSpent o
 command_not held kinds (Replay script plan events) seen o is stage = absurd cc
 command_not held kinds (Serve plan budget idle) seen o is stage = absurd cc
+command_not held kinds (ServeLogged plan budget idle) seen o is stage = absurd cc
 command_not held kinds (Check description) seen o is stage = absurd cc
 command_not held kinds (Derive plan) seen o is stage = absurd cc
 command_not held kinds (Table plan) seen o is stage = absurd cc

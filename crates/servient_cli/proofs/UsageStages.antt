@@ -2,7 +2,7 @@
 -- with 7, but where others are asked and what they answer can't be printed, so that this status is left to the output.
 use Rattle.std.proofs.Common.{◌≡◌, ◌*◌, subst, refl, true, false, ◌⊎◌, ◌∙◌, ℕ, List, [], ◌∷◌, Option, Some, None, ap, arith, inl, inr, sym}
 use Rattle.command_words.specs.declared.command.Command.{Command}
-use Rattle.command_words.specs.declared.command.Command.TheVariants.{Replay, Serve, Derive, Table, Check, Consume, Storm, Discover}
+use Rattle.command_words.specs.declared.command.Command.TheVariants.{Replay, Serve, ServeLogged, Derive, Table, Check, Consume, Storm, Discover}
 use Rattle.wot_json.specs.declared.tree.Tree.{Tree}
 use Rattle.tm_parts.specs.Library.{Models}
 use Rattle.wot_json.specs.Tree.{Json}
@@ -37,6 +37,10 @@ use Rattle.servient_cli.specs.Consuming.{Chooses, is_chosen, has_no_affordance, 
 use Rattle.servient_cli.specs.Opening.{Exposes, is_exposed, is_misfit, expose_memory, Opens}
 use Rattle.servient_cli.specs.Listening.{Listens, is_listening, cannot_listen, place_memory, listen_memory, ServesEvents, has_served, Endures, has_endured, ServesBy, ServesPlanned}
 use Rattle.servient_core.specs.declared.sections.SectionsEnd.TheVariants as ending
+use Rattle.servient_core.specs.declared.sections.RunBounds.{RunBounds}
+use Rattle.logged_serving.specs.declared.serving.LoggedEnd.{LoggedEnd}
+use Rattle.logged_serving.specs.declared.serving.LoggedEnd.TheVariants as logged
+use Rattle.servient_cli.specs.LoggedServing.{status_at_log_end, bounds_of, TakesLog, log_taken, log_memory, ServesWithLog, heading_unwritten, has_logged, ListensAndLogs, LogsPlanned, LogsPlan}
 use Rattle.command_words.specs.declared.command.Budget.{Budget}
 use Rattle.command_words.specs.declared.command.Budget.TheVariants as budgets
 use Rattle.command_stages.specs.Checking.{Checks, Judges, is_valid, is_refused, judge_memory}
@@ -51,7 +55,7 @@ use Rattle.command_words.specs.declared.fault.WordsFault.TheVariants.{Usage, NoM
 use Rattle.command_stages.specs.declared.ending.Ended.{Ended}
 use Rattle.command_stages.specs.Words.{EndsAs}
 use Rattle.command_stages.specs.Ending.{status_of as ended_status}
-use Rattle.servient_cli.specs.Command.{Commands, Does, Ends, IsNoCommand, IsReported, MayDiscover, is_asking, is_discovering, is_command, is_no_command, words_memory}
+use Rattle.servient_cli.specs.Command.{Commands, Does, Ends, IsNoCommand, IsReported, MayDiscover, is_discovering, is_writing, is_command, is_no_command, words_memory}
 
 abbrev pub status_of : {A : Type 0} → Outcome A → ℕ
 status_of (goes_on value) = 0
@@ -158,7 +162,7 @@ table_not name kinds plan things seen o (table_memory e) = by_status o 9 e.1 (om
 whole_not : (plan : Plan) (models : Models) (seen : List Deed) (o : Outcome Planned) → IsPlanned plan models seen o → EndsPlainly o
 whole_not plan models seen o (is_planned a is) = goes_by o _ is
 
-planned_not : (held : Option (List HeldFile)) (name : List ℕ) (seen : List Deed) (o : Outcome Planned) → ReadsPlanned held name seen o → EndsPlainly o
+pub planned_not : (held : Option (List HeldFile)) (name : List ℕ) (seen : List Deed) (o : Outcome Planned) → ReadsPlanned held name seen o → EndsPlainly o
 planned_not held name seen o stage =
     then_not (ReadsFile held longest_json name) (λ content. AndThen (ReadsTree name content) (λ tree. AndThen (ReadsPlan name tree) (λ plan. AndThen (TakesModels held plan.models []) (IsPlanned plan)))) seen o (file_not held longest_json name)
     (λ content s r p. then_not (ReadsTree name content) (λ tree. AndThen (ReadsPlan name tree) (λ plan. AndThen (TakesModels held plan.models []) (IsPlanned plan))) s r (tree_not name content)
@@ -179,14 +183,14 @@ inputs_not held plan script seen o stage =
     (λ p s r st. then_not (ReadsEvents held script) (HasRead p) s r
     (λ s2 r2 st2. then_not (ReadsFile held longest_script script) (ReadsScript script) s2 r2 (file_not held longest_script script) (script_not script) st2) (read_not p) st) stage
 
-open_not : (name : List ℕ) (kinds : List Kind) (p : Planned) (seen : List Deed) (o : Outcome Site) → Opens name kinds p seen o → EndsPlainly o
+pub open_not : (name : List ℕ) (kinds : List Kind) (p : Planned) (seen : List Deed) (o : Outcome Site) → Opens name kinds p seen o → EndsPlainly o
 open_not name kinds p seen o stage = then_not (Derives p) (Exposes name kinds p.plan) seen o (derive_not p) (expose_not name kinds p.plan) stage
 
 run_on_not : (name : List ℕ) (kinds : List Kind) (budget : ℕ) (read : Inputs) (seen : List Deed) (o : Outcome (Unit {0})) → RunsOn name kinds budget read seen o → EndsPlainly o
 run_on_not name kinds budget read seen o stage =
     then_not (Opens name kinds read.planned) (RunsScript budget read.events read.planned.plan.exchanges read.planned.plan.epoch) seen o (open_not name kinds read.planned) (run_not budget read.events read.planned.plan.exchanges read.planned.plan.epoch) stage
 
-listen_not : (place : Place) (seen : List Deed) (o : Outcome (Unit {0})) → Listens place seen o → EndsPlainly o
+pub listen_not : (place : Place) (seen : List Deed) (o : Outcome (Unit {0})) → Listens place seen o → EndsPlainly o
 listen_not place seen o (is_listening a is) = goes_by o tt is
 listen_not place seen o (cannot_listen e) = by_status o 6 e.1 (omega arith, omega arith)
 listen_not place seen o (place_memory e) = by_status o 9 e.1 (omega arith, omega arith)
@@ -270,7 +274,31 @@ consume_not held k seen o stage =
     (λ input s2 r2 p2. then_so NotTwo (Chooses tree (form_operation k.operation) k.name k.scheme) (Operates k tree input) s2 r2
     (λ s3 r3 p3. (choose_not tree (form_operation k.operation) k.name k.scheme s3 r3 p3).0) (operate_not k tree input) p2) p) stage
 
-ends_plainly : (held : Option (List HeldFile)) (kinds : List Kind) (command : Command) (seen : List Deed) (o : Outcome (Unit {0})) → is_asking (Some command) ≡ false → Does held kinds command seen o → EndsPlainly o
+-- ---- `serve --log`, which ends with 7 where a write of its log failed
+
+pub take_log_not : (seen : List Deed) (o : Outcome (Unit {0})) → TakesLog seen o → EndsPlainly o
+take_log_not seen o (log_taken a is) = goes_by o tt is
+take_log_not seen o (log_memory e) = by_status o 9 e.1 (omega arith, omega arith)
+
+logged_not : (r : LoggedEnd) → ¬ (status_at_log_end r ≡ 2)
+logged_not logged.Stopped two = absurd (omega (arith, two))
+logged_not logged.Failed two = absurd (omega (arith, two))
+logged_not logged.Spent two = absurd (omega (arith, two))
+logged_not logged.Unwritten two = absurd (omega (arith, two))
+
+with_log_not : (bounds : RunBounds) (plan : Plan) (site : Site) (seen : List Deed) (o : Outcome (Unit {0})) → ServesWithLog bounds plan site seen o → NotTwo (status_of o)
+with_log_not bounds plan site seen o (heading_unwritten e) = subst NotTwo (sym (ap status_of e.1)) (λ two. absurd (omega (arith, two)))
+with_log_not bounds plan site seen o (has_logged r shown end a e) = subst NotTwo (sym (ap status_of e.1)) (logged_not r)
+
+log_not : (held : Option (List HeldFile)) (kinds : List Kind) (plan : List ℕ) (budget : Budget) (idle : ℕ) (seen : List Deed) (o : Outcome (Unit {0})) → LogsPlan held kinds plan budget idle seen o → NotTwo (status_of o)
+log_not held kinds plan budget idle seen o stage =
+    then_so NotTwo (ReadsPlanned held plan) (LogsPlanned plan kinds budget idle) seen o (λ s r p. (planned_not held plan s r p).0)
+    (λ p s r st. then_so NotTwo (Opens plan kinds p) (λ site. AndThen TakesLog (λ _. ListensAndLogs budget idle p.plan site)) s r (λ s2 r2 p2. (open_not plan kinds p s2 r2 p2).0)
+    (λ site s2 r2 st2. then_so NotTwo TakesLog (λ _. ListensAndLogs budget idle p.plan site) s2 r2 (λ s3 r3 p3. (take_log_not s3 r3 p3).0)
+    (λ _ s3 r3 st3. then_so NotTwo (Listens (place_of p.plan (idle * 1000))) (λ _. ServesWithLog (bounds_of budget site) p.plan site) s3 r3 (λ s4 r4 p4. (listen_not (place_of p.plan (idle * 1000)) s4 r4 p4).0)
+    (λ _. with_log_not (bounds_of budget site) p.plan site) st3) st2) st) stage
+
+ends_plainly : (held : Option (List HeldFile)) (kinds : List Kind) (command : Command) (seen : List Deed) (o : Outcome (Unit {0})) → is_writing (Some command) ≡ false → Does held kinds command seen o → EndsPlainly o
 ends_plainly held kinds (Replay script plan events) seen o other stage =
     then_not (ReadsInputs held plan script) (RunsOn (plan_name plan) kinds events) seen o (inputs_not held plan script) (run_on_not (plan_name plan) kinds events) stage
 ends_plainly held kinds (Check description) seen o other stage =
@@ -284,6 +312,7 @@ ends_plainly held kinds (Table plan) seen o other stage =
     (λ p s r st. then_not (Derives p) (PrintsTable plan kinds p.plan) s r (derive_not p) (table_not plan kinds p.plan) st) stage
 ends_plainly held kinds (Serve plan budget idle) seen o other stage =
     then_not (ReadsPlanned held plan) (ServesPlanned plan kinds budget idle) seen o (planned_not held plan) (serving_not plan kinds budget idle) stage
+ends_plainly held kinds (ServeLogged plan budget idle) seen o other stage = absurd cc
 ends_plainly held kinds (Storm seed events) seen o other stage = storm_not kinds seed events seen o stage
 ends_plainly held kinds (Consume consumption) seen o other stage = absurd cc
 ends_plainly held kinds (Discover host port) seen o other stage = absurd cc
@@ -294,6 +323,7 @@ does_not_end_so held kinds (Check description) seen o stage = (ends_plainly held
 does_not_end_so held kinds (Derive plan) seen o stage = (ends_plainly held kinds (Derive plan) seen o refl stage).0
 does_not_end_so held kinds (Table plan) seen o stage = (ends_plainly held kinds (Table plan) seen o refl stage).0
 does_not_end_so held kinds (Serve plan budget idle) seen o stage = (ends_plainly held kinds (Serve plan budget idle) seen o refl stage).0
+does_not_end_so held kinds (ServeLogged plan budget idle) seen o stage = log_not held kinds plan budget idle seen o stage
 does_not_end_so held kinds (Storm seed events) seen o stage = (ends_plainly held kinds (Storm seed events) seen o refl stage).0
 does_not_end_so held kinds (Consume consumption) seen o stage = consume_not held consumption seen o stage
 does_not_end_so held kinds (Discover host port) seen o stage = asked_not _ seen o stage
@@ -327,14 +357,14 @@ usage_is_exact words before now out out_now result e =
 
 -- ---- status 7
 
-never_seven : (held : Option (List HeldFile)) (kinds : List Kind) (words : List (List ℕ)) (seen : List Deed) (status : ℕ) → is_asking (meaning_of words) ≡ false → Commands held kinds words seen (ends status) → ¬ (status ≡ 7)
+never_seven : (held : Option (List HeldFile)) (kinds : List Kind) (words : List (List ℕ)) (seen : List Deed) (status : ℕ) → is_writing (meaning_of words) ≡ false → Commands held kinds words seen (ends status) → ¬ (status ≡ 7)
 never_seven held kinds words seen status other (is_no_command none e) = λ seven. let bad : 2 ≡ 7 = sym (ap status_of e.1) ∙ seven in absurd (omega (arith, bad))
 never_seven held kinds words seen status other (is_command command meaning stage) =
-    (ends_plainly held kinds command seen (ends status) (sym (ap is_asking meaning) ∙ other) stage).1
+    (ends_plainly held kinds command seen (ends status) (sym (ap is_writing meaning) ∙ other) stage).1
 never_seven held kinds words seen status other (words_memory e) = λ seven. let bad : 9 ≡ 7 = sym (ap status_of e.1) ∙ seven in absurd (omega (arith, bad))
 
 -- where nothing is asked of others, that is the output's
-pub output_failed : (words : List (List ℕ)) (before now : Around) (out out_now : OutSeen) (result : ℕ) → Ends words before now out out_now result → is_asking (meaning_of words) ≡ false → result ≡ 7 → Rose out.faults out_now.faults
+pub output_failed : (words : List (List ℕ)) (before now : Around) (out out_now : OutSeen) (result : ℕ) → Ends words before now out out_now result → is_writing (meaning_of words) ≡ false → result ≡ 7 → Rose out.faults out_now.faults
 output_failed words before now out out_now result e other seven = elim e.reported [
   | inl done ↦ absurd (never_seven before.files.held (kinds_of before.outside.slots) words e.seen e.status other e.stage (sym done.0 ∙ seven))
   | inr failed ↦ failed.1
@@ -368,6 +398,7 @@ discovered_so P seen o (line_memory r deeds a e) = may_discover (status_of o) 9 
 does_discover : (held : Option (List HeldFile)) (kinds : List Kind) (command : Command) (seen : List Deed) (o : Outcome (Unit {0})) → is_discovering (Some command) ≡ true → Does held kinds command seen o → MayDiscover (status_of o)
 does_discover held kinds (Replay script plan events) seen o is stage = absurd cc
 does_discover held kinds (Serve plan budget idle) seen o is stage = absurd cc
+does_discover held kinds (ServeLogged plan budget idle) seen o is stage = absurd cc
 does_discover held kinds (Check description) seen o is stage = absurd cc
 does_discover held kinds (Derive plan) seen o is stage = absurd cc
 does_discover held kinds (Table plan) seen o is stage = absurd cc

@@ -3,13 +3,13 @@
 -- The grammar gives the meaning of the words, `meaning_of` of `command_words`.
 -- `replay SCRIPT [PLAN]` reads the plan and its models, if a plan is named, and the script, runs its events, and prints
 -- the acts and the turns. `serve PLAN` reads a plan and its models, listens at the plan's place, and serves what comes
--- there, as many events as its budget has. `check TD` reads a Thing Description and says whether it is valid, or its
--- first fault. `derive PLAN` reads a plan and its models, and prints the descriptions of its Things, or the first
+-- there, as many events as its budget has; with `--log` it writes a line for each turn besides. `check TD` reads a Thing
+-- Description and says whether it is valid, or its first fault. `derive PLAN` reads a plan and its models, and prints the descriptions of its Things, or the first
 -- fault; with `--table` it prints what the plan gives each affordance in their place. `storm SEED N` runs events that are
 -- drawn from a seed on the built-in Thing, and counts what came of them. `consume TD OPERATION NAME` reads a description,
 -- and does an operation on the Thing that it describes. `discover HOST:PORT` asks a server which Things it has. Each is a
 -- row of stages, in a file of its own. A further command adds its file and a row.
-use Rattle.std.specs.Prelude.{◌≡◌, ◌≢◌, ◌≤◌, ◌⊎◌, ℕ, Bool, true, false, List, [], ◌++◌, Option, Some, None, Ok, length}
+use Rattle.std.specs.Prelude.{◌≡◌, ◌≢◌, ◌≤◌, ◌⊎◌, ℕ, Bool, true, false, List, [], ◌++◌, Option, Some, None, Result, Ok, length}
 use Rattle.servient_base.specs.Count.{Rose}
 use Rattle.wot_json.specs.Tree.{Json}
 use Rattle.wot_json.specs.Reading.{tree_of}
@@ -23,12 +23,15 @@ use Rattle.command_words.specs.Grammar.{meaning_of}
 use Rattle.command_words.specs.declared.command.Command.{Command}
 use Rattle.command_words.specs.declared.command.Consumption.{Consumption}
 use Rattle.command_words.specs.Operations.{form_operation}
-use Rattle.command_words.specs.declared.command.Command.TheVariants.{Replay, Serve, Check, Derive, Table, Consume, Storm, Discover}
+use Rattle.command_words.specs.declared.command.Command.TheVariants.{Replay, Serve, ServeLogged, Check, Derive, Table, Consume, Storm, Discover}
 use Rattle.servient_outside.specs.declared.files.HeldFile.{HeldFile}
 use Rattle.servient_outside.specs.Told.{Continues}
 use Rattle.servient_outside.specs.Files.{content_of}
 use Rattle.servient_outside.specs.Out.{OutSeen, NoWriteFailed}
 use Rattle.command_stages.specs.declared.derivation.Planned.{Planned}
+use Rattle.command_stages.specs.declared.ending.Ending.{Ending}
+use Rattle.command_stages.specs.declared.ending.Ended.{Ended}
+use Rattle.command_stages.specs.Ending.{final_text}
 use Rattle.command_stages.specs.Lines.{usage_line}
 use Rattle.command_stages.specs.Stages.{Deed, text_in, Outcome, ends, EndsWith, RunsOut, AndThen, Around, ShowsDeeds}
 use Rattle.command_stages.specs.Reading.{ReadsFile, longest_json}
@@ -37,7 +40,8 @@ use Rattle.command_stages.specs.Inputs.{built_in}
 use Rattle.servient_cli.specs.Replaying.{Replays, IsFaultlessScript}
 use Rattle.servient_cli.specs.Storming.{Storms}
 use Rattle.servient_cli.specs.Listening.{ServesPlan}
-use Rattle.servient_cli.specs.Consuming.{ConsumesThing}
+use Rattle.servient_cli.specs.LoggedServing.{LogsPlan, IsInTurn, WritesInTurn}
+use Rattle.servient_cli.specs.Consuming.{ConsumesThing, EndsPrinting}
 use Rattle.servient_cli.specs.Discovering.{DiscoversThings}
 use Rattle.command_stages.specs.Checking.{Checks, IsFaultlessDescription}
 use Rattle.command_stages.specs.Deriving.{ReadsPlanned, DerivesAndPrints, IsFaultlessPlan, derived_of}
@@ -50,6 +54,7 @@ use Rattle.command_stages.specs.Tabling.{TablesPlan}
 abbrev pub Does : Option (List HeldFile) → List Kind → Command → List Deed → Outcome (Unit {0}) → Type 0
 Does held kinds (Replay script plan events) = Replays held kinds script plan events
 Does held kinds (Serve plan budget idle) = ServesPlan held kinds plan budget idle
+Does held kinds (ServeLogged plan budget idle) = LogsPlan held kinds plan budget idle
 Does held kinds (Check description) = AndThen (ReadsFile held longest_json description) (Checks description)
 Does held kinds (Derive plan) = AndThen (ReadsPlanned held plan) DerivesAndPrints
 Does held kinds (Table plan) = TablesPlan held kinds plan
@@ -60,7 +65,13 @@ Does held kinds (Discover host port) = DiscoversThings host port
 -- the words mean that a plan is served
 abbrev pub is_serving : Option Command → Bool
 is_serving (Some (Serve plan budget idle)) = true
+is_serving (Some (ServeLogged plan budget idle)) = true
 is_serving command = false
+
+-- the words mean that a plan is served with a log
+abbrev pub is_logging : Option Command → Bool
+is_logging (Some (ServeLogged plan budget idle)) = true
+is_logging command = false
 
 -- the words mean a storm
 abbrev pub is_storm : Option Command → Bool
@@ -73,6 +84,13 @@ is_asking (Some (Consume consumption)) = true
 is_asking (Some (Discover host port)) = true
 is_asking command = false
 
+-- the words mean a command that writes as it goes: one that asks others, or one with a log
+abbrev pub is_writing : Option Command → Bool
+is_writing (Some (ServeLogged plan budget idle)) = true
+is_writing (Some (Consume consumption)) = true
+is_writing (Some (Discover host port)) = true
+is_writing command = false
+
 -- the words mean that a server is asked for its Things
 abbrev pub is_discovering : Option Command → Bool
 is_discovering (Some (Discover host port)) = true
@@ -81,6 +99,7 @@ is_discovering command = false
 -- the words mean a command that uses the network
 abbrev pub is_networked : Option Command → Bool
 is_networked (Some (Serve plan budget idle)) = true
+is_networked (Some (ServeLogged plan budget idle)) = true
 is_networked (Some (Consume consumption)) = true
 is_networked (Some (Discover host port)) = true
 is_networked command = false
@@ -89,6 +108,7 @@ is_networked command = false
 abbrev pub calls_handlers : Option Command → Bool
 calls_handlers (Some (Replay script plan events)) = true
 calls_handlers (Some (Serve plan budget idle)) = true
+calls_handlers (Some (ServeLogged plan budget idle)) = true
 calls_handlers (Some (Storm seed events)) = true
 calls_handlers command = false
 
@@ -113,19 +133,25 @@ IsReported status text out out_now result =
     × (prefix : List ℕ) × (rest : List ℕ) × (text ≡ prefix ++ rest) × Continues out.written out_now.written prefix
 
 -- Stages came out with a status, the files, the network and the handlers show what was done, and the output shows what
--- was written, which it was where it had room for it.
-pub record EndsAndReports (P : List Deed → Outcome (Unit {0}) → Type 0) (before now : Around) (out out_now : OutSeen) (result : ℕ) : Type 0 where
+-- was written, which it was where it had room for it; with a log, in turn with what was done.
+pub record EndsAndReports (logs : Bool) (P : List Deed → Outcome (Unit {0}) → Type 0) (before now : Around) (out out_now : OutSeen) (result : ℕ) : Type 0 where
   pub seen : List Deed
   pub status : ℕ
   pub stage : P seen (ends status)
   pub shows : ShowsDeeds before now seen
   pub reported : IsReported status (text_in seen) out out_now result
   pub no_failure : NoWriteFailed out out_now (text_in seen)
+  pub in_turn : logs ≡ true → WritesInTurn out out_now seen result
+
+-- A command that writes as it goes ended so, before the text of its end is written.
+abbrev pub EndsWriting : Bool → (List Deed → Outcome (Unit {0}) → Type 0) → Around → Around → OutSeen → OutSeen → Result Ending Ended → Type 0
+EndsWriting logs P before now out out_now result =
+    (ended : EndsPrinting P before now out out_now result) × (logs ≡ true → IsInTurn out out_now ended.seen (final_text result) ended.answer)
 
 -- The top call did this: the command of its words.
 abbrev pub Ends : List (List ℕ) → Around → Around → OutSeen → OutSeen → ℕ → Type 0
 Ends words before now out out_now result =
-    EndsAndReports (Commands before.files.held (kinds_of before.outside.slots) words) before now out out_now result
+    EndsAndReports (is_logging (meaning_of words)) (Commands before.files.held (kinds_of before.outside.slots) words) before now out out_now result
 
 -- Nothing is wrong with a file: the files hold it, it is not too long, and nothing is wrong with what it holds.
 pub record HoldsFaultless (files : List HeldFile) (limit : ℕ) (name : List ℕ) (Good : List ℕ → Type 0) : Type 0 where
@@ -189,6 +215,7 @@ pub record IsFaultlessConsumption (files : List HeldFile) (k : Consumption) : Ty
 abbrev pub HasFaultlessFiles : List HeldFile → List Kind → Command → Type 0
 HasFaultlessFiles files kinds (Replay script plan events) = IsFaultlessReplay files kinds script plan events
 HasFaultlessFiles files kinds (Serve plan budget idle) = IsFaultlessServing files kinds plan
+HasFaultlessFiles files kinds (ServeLogged plan budget idle) = IsFaultlessServing files kinds plan
 HasFaultlessFiles files kinds (Check description) = HoldsFaultless files longest_json description IsFaultlessDescription
 HasFaultlessFiles files kinds (Derive plan) = IsFaultlessDerivation files plan
 HasFaultlessFiles files kinds (Table plan) = IsFaultlessServing files kinds plan

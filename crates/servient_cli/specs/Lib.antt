@@ -3,6 +3,7 @@ pub mod Replaying
 pub mod Counting
 pub mod Storming
 pub mod Listening
+pub mod LoggedServing
 pub mod Consuming
 pub mod Discovering
 pub mod Command

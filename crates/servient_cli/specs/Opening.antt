@@ -9,6 +9,7 @@ use Rattle.thing_site.specs.declared.fault.ExposeFault.TheVariants.{NoMemory}
 use Rattle.servient_plan.specs.declared.plan.Plan.{Plan}
 use Rattle.servient_core.specs.Machine.{Site}
 use Rattle.servient_core.specs.declared.layers.Layers.{Layers}
+use Rattle.servient_cli.specs.declared.opening.CountedServient.{CountedServient}
 use Rattle.command_stages.specs.declared.derivation.Planned.{Planned}
 use Rattle.command_stages.specs.declared.ending.Ended.{Ended}
 use Rattle.command_stages.specs.Lines.{input_line}
@@ -34,3 +35,7 @@ Opens name kinds p = AndThen (Derives p) (Exposes name kinds p.plan)
 abbrev pub site_in : Result Layers Ended → Result Site Ended
 site_in (Ok servient) = Ok servient.exposed.site
 site_in (Err ended) = Err ended
+
+abbrev pub site_of_counted : Result CountedServient Ended → Result Site Ended
+site_of_counted (Ok counted) = Ok counted.servient.exposed.site
+site_of_counted (Err ended) = Err ended

@@ -6,7 +6,7 @@ ghost use Rattle.thing_site.specs.Exposing.{kinds_of};
 ghost use Rattle.command_stages.specs.Stages.{AndThen, around};
 ghost use Rattle.command_stages.specs.Reading.{ReadsFile, longest_json};
 ghost use Rattle.command_stages.specs.Checking.{Checks};
-ghost use Rattle.servient_cli.specs.Command.{calls_handlers, is_asking, is_networked, Does};
+ghost use Rattle.servient_cli.specs.Command.{calls_handlers, is_networked, is_writing, Does};
 ghost use Rattle.command_stages.specs.Ending.{EndsBy};
 
 use crate::listening::{ServeRequest, serve_plan};
@@ -21,7 +21,7 @@ use servient_outside::{Files, Net};
 use std::alloc::Global;
 use thing_handler::Handlers;
 
-/// Does a command that asks no others, since those that do write as they go.
+/// Does a command that writes at its end alone.
 pub fn run_command<F: Files, N: Net, R: Handlers>(
     alloc: Global,
     command: &Command,
@@ -29,7 +29,7 @@ pub fn run_command<F: Files, N: Net, R: Handlers>(
     net: &mut N,
     rack: &mut R,
 ) -> Result<Ending, Ended>
-    requires { is_asking (Some command.now) ≡ false }
+    requires { is_writing (Some command.now) ≡ false }
     ensures ends { EndsBy (Does (F.seen files.old).held (kinds_of (R.slots rack.old)) command.now)
         (around (F.seen files.old) (outside (N.seen net.old) (R.slots rack.old)))
         (around (F.seen files.new) (outside (N.seen net.new) (R.slots rack.new))) result }
@@ -57,6 +57,7 @@ pub fn run_command<F: Files, N: Net, R: Handlers>(
         Command::Derive { plan } => derive_plan(alloc, plan.as_str(), files),
         Command::Table { plan } => table_plan(alloc, plan.as_str(), files, rack),
         Command::Storm { seed, events } => storm(alloc, *seed, *events, rack),
+        Command::ServeLogged { .. } => unreachable!(),
         Command::Consume(_) => unreachable!(),
         Command::Discover { .. } => unreachable!(),
     }

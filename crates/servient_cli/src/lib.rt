@@ -22,6 +22,7 @@ mod counting;
 mod discovery;
 mod laws;
 mod listening;
+mod logging;
 mod main_call;
 mod opening;
 mod outcomes;

@@ -68,7 +68,7 @@ fn serve_planned<N: Net, R: Handlers>(
 }
 
 /// Listens at the place of a plan, until `idle` seconds pass without traffic.
-fn listen<N: Net>(alloc: Global, plan: &Plan, idle: u32, net: &mut N) -> Result<(), Ended>
+pub fn listen<N: Net>(alloc: Global, plan: &Plan, idle: u32, net: &mut N) -> Result<(), Ended>
     ensures { (files : FilesSeen) → (slots : List Seen) → Performs (Listens (place_of plan.now (idle * 1000)))
         (around files (outside (N.seen net.old) slots)) (around files (outside (N.seen net.new) slots)) result }
 {

@@ -1,22 +1,21 @@
 //! The top call: from the words of the command line to the exit status.
 
-ghost use Rattle.std.specs.Prelude.{◌≡◌, ◌≢◌, ◌≤◌, ◌⊎◌, true, false, List, Some};
-ghost use Rattle.wot_terms.specs.declared.kind.Kind.{Kind};
+ghost use Rattle.std.specs.Prelude.{◌≡◌, ◌≢◌, ◌≤◌, ◌⊎◌, true, false, Some};
 ghost use Rattle.thing_site.specs.Exposing.{kinds_of};
 ghost use Rattle.command_stages.specs.Stages.{around};
 ghost use Rattle.command_words.specs.Grammar.{meaning_of};
 ghost use Rattle.servient_base.specs.Count.{Rose};
 ghost use Rattle.servient_outside.specs.Out.{NoWriteFailed};
 ghost use Rattle.servient_trace.specs.Trace.{outside};
-ghost use Rattle.thing_handler.specs.Handler.{Seen};
-ghost use Rattle.servient_cli.specs.Command.{calls_handlers, is_asking, is_discovering, is_networked, is_storm};
-ghost use Rattle.servient_cli.specs.Command.{Does, Ends, EndsAndReports, IsFaultless, IsNoCommand, IsReported, IsWell, MayDiscover, NothingFailed};
-ghost use Rattle.servient_cli.specs.Consuming.{EndsPrinting};
+ghost use Rattle.servient_cli.specs.Command.{calls_handlers, is_discovering, is_logging, is_networked, is_storm, is_writing};
+ghost use Rattle.servient_cli.specs.Command.{Does, Ends, EndsAndReports, EndsWriting, IsFaultless, IsNoCommand, IsReported, IsWell, MayDiscover, NothingFailed};
 ghost use Rattle.command_stages.specs.Ending.{final_status as status_in, final_text as text_in};
 
 use crate::commands::run_command;
 use crate::consumption::consume_thing;
 use crate::discovery::discover_things;
+use crate::listening::ServeRequest;
+use crate::logging::log_plan;
 use command_stages::{Ended, Ending, SPENT_LINE};
 use command_words::Command;
 use servient_outside::{Files, Net, Out, Put};
@@ -45,7 +44,8 @@ pub fn servient_main<F: Files, N: Net, R: Handlers, O: Out>(
     rack: &mut R,
     out: &mut O,
 ) -> u8
-    // The command of the words ended with a status, and its text and the status were reported.
+    // The command of the words ended with a status, and its text and the status were reported. With a log no event was taken
+    // before all lines of the turns so far were written.
     ensures ends { Ends words.now
         (around (F.seen files.old) (outside (N.seen net.old) (R.slots rack.old)))
         (around (F.seen files.new) (outside (N.seen net.new) (R.slots rack.new)))
@@ -78,8 +78,8 @@ pub fn servient_main<F: Files, N: Net, R: Handlers, O: Out>(
 {
     match Command::read(alloc, words) {
         Ok(command) => {
-            if asks_others(&command) {
-                ask_and_report(alloc, &command, files, net, out)
+            if writes_early(&command) {
+                work_and_report(alloc, &command, files, net, rack, out)
             } else {
                 report(out, &run_command(alloc, &command, files, net, rack))
             }
@@ -88,12 +88,13 @@ pub fn servient_main<F: Files, N: Net, R: Handlers, O: Out>(
     }
 }
 
-/// A command asks others, and writes as it goes.
-fn asks_others(command: &Command) -> bool
-    ensures { result ≡ is_asking (Some command.now) }
+/// A command writes as it goes.
+fn writes_early(command: &Command) -> bool
+    ensures { result ≡ is_writing (Some command.now) }
 {
     // Arms of their own, since an or-pattern gives the proof a sum in place of an equation.
     match command {
+        Command::ServeLogged { .. } => true,
         Command::Consume(_) => true,
         Command::Discover { .. } => true,
         Command::Replay { .. } => false,
@@ -105,40 +106,52 @@ fn asks_others(command: &Command) -> bool
     }
 }
 
-/// Asks others as a command says, and reports the end.
-fn ask_and_report<F: Files, N: Net, O: Out>(
+/// Does a command that writes as it goes, and reports the end.
+fn work_and_report<F: Files, N: Net, R: Handlers, O: Out>(
     alloc: Global,
     command: &Command,
     files: &mut F,
     net: &mut N,
+    rack: &mut R,
     out: &mut O,
 ) -> u8
-    requires { is_asking (Some command.now) ≡ true }
-    ensures ends { (kinds : List Kind) → (slots : List Seen) → EndsAndReports (Does (F.seen files.old).held kinds command.now)
-        (around (F.seen files.old) (outside (N.seen net.old) slots)) (around (F.seen files.new) (outside (N.seen net.new) slots))
+    requires { is_writing (Some command.now) ≡ true }
+    ensures ends { EndsAndReports (is_logging (Some command.now)) (Does (F.seen files.old).held (kinds_of (R.slots rack.old)) command.now)
+        (around (F.seen files.old) (outside (N.seen net.old) (R.slots rack.old))) (around (F.seen files.new) (outside (N.seen net.new) (R.slots rack.new)))
         (O.seen out.old) (O.seen out.new) result }
     ensures output { result ≡ 7 → Rose (O.seen out.old).faults (O.seen out.new).faults }
     ensures files { is_discovering (Some command.now) ≡ true → files.new ≡ files.old }
+    ensures rack { calls_handlers (Some command.now) ≡ false → rack.new ≡ rack.old }
 {
-    let ended = ask_others(alloc, command, files, net, out);
+    let ended = work(alloc, command, files, net, rack, out);
     report(out, &ended)
 }
 
-/// Asks others as a command says.
-fn ask_others<F: Files, N: Net, O: Out>(
+/// Does a command that writes as it goes.
+fn work<F: Files, N: Net, R: Handlers, O: Out>(
     alloc: Global,
     command: &Command,
     files: &mut F,
     net: &mut N,
+    rack: &mut R,
     out: &mut O,
 ) -> Result<Ending, Ended>
-    requires { is_asking (Some command.now) ≡ true }
-    ensures ends { (kinds : List Kind) → (slots : List Seen) → EndsPrinting (Does (F.seen files.old).held kinds command.now)
-        (around (F.seen files.old) (outside (N.seen net.old) slots)) (around (F.seen files.new) (outside (N.seen net.new) slots))
+    requires { is_writing (Some command.now) ≡ true }
+    ensures ends { EndsWriting (is_logging (Some command.now)) (Does (F.seen files.old).held (kinds_of (R.slots rack.old)) command.now)
+        (around (F.seen files.old) (outside (N.seen net.old) (R.slots rack.old))) (around (F.seen files.new) (outside (N.seen net.new) (R.slots rack.new)))
         (O.seen out.old) (O.seen out.new) result }
     ensures files { is_discovering (Some command.now) ≡ true → files.new ≡ files.old }
+    ensures rack { calls_handlers (Some command.now) ≡ false → rack.new ≡ rack.old }
 {
     match command {
+        Command::ServeLogged { plan, budget, idle } => {
+            let request = ServeRequest {
+                plan: plan.as_str(),
+                budget: *budget,
+                idle: *idle,
+            };
+            log_plan(alloc, request, files, net, rack, out)
+        }
         Command::Consume(consumption) => consume_thing(alloc, consumption, files, net, out),
         Command::Discover { host, port } => discover_things(alloc, host.as_str(), *port, net, out),
         Command::Replay { .. } => unreachable!(),

@@ -13,7 +13,7 @@ use Rattle.wot_consumer.specs.Discovery.{links_of}
 use Rattle.thing_site.specs.Exposing.{kinds_of}
 use Rattle.tm_parts.specs.Library.{Models}
 use Rattle.command_words.specs.declared.command.Command.{Command}
-use Rattle.command_words.specs.declared.command.Command.TheVariants.{Replay, Serve, Check, Derive, Table, Storm, Consume, Discover}
+use Rattle.command_words.specs.declared.command.Command.TheVariants.{Replay, Serve, ServeLogged, Check, Derive, Table, Storm, Consume, Discover}
 use Rattle.command_words.specs.declared.command.Consumption.{Consumption}
 use Rattle.command_words.specs.Operations.{form_operation}
 use Rattle.servient_outside.specs.declared.files.FileRead.{FileRead}
@@ -47,6 +47,10 @@ use Rattle.servient_cli.specs.Storming.{RunsStorm, is_counted, storm_memory, Sto
 use Rattle.command_stages.specs.Describing.{TakesDescription, is_taken, has_fault, description_memory, DescriptionIn, ReadsDescription, ReadsValue, HasInput, has_input, HasNoInput, has_no_input, ReadsInput}
 use Rattle.servient_cli.specs.Consuming.{Chooses, is_chosen, has_no_affordance, has_no_form, choose_memory, deeds_of, status_after, line_after, EndsAfter, has_ended, line_memory, IsOperated, Operates, OperatesOn, ConsumesBy, ConsumesThing}
 use Rattle.servient_cli.specs.Opening.{Exposes, is_exposed, is_misfit, expose_memory, Opens}
+use Rattle.servient_core.specs.declared.sections.RunBounds.{RunBounds}
+use Rattle.logged_serving.specs.declared.serving.LoggedEnd.TheVariants as logged
+use Rattle.servient_cli.specs.LoggedServing.{bounds_of, heading_of, TakesLog, log_taken, log_memory, ServesWithLog, heading_unwritten, has_logged, ListensAndLogs, LogsPlanned}
+use Rattle.servient_cli.proofs.LoggedStages.{sightings_logged}
 use Rattle.servient_cli.specs.Listening.{Listens, is_listening, cannot_listen, place_memory, listen_memory, ServesEvents, has_served, Endures, has_endured, ServesBy, ServesPlanned}
 use Rattle.command_stages.proofs.StageLaws.{shows_net}
 use Rattle.servient_trace.specs.ShownSections.{Shown, saw as was_seen, forgot, seen_in}
@@ -289,6 +293,21 @@ serve_by_tells : (held : Option (List HeldFile)) (budget : Budget) (exchanges : 
 serve_by_tells held (budgets.Events n) exchanges epoch site = serve_tells held n exchanges epoch site
 serve_by_tells held budgets.Endless exchanges epoch site = endure_tells held exchanges epoch site
 
+-- with a log; the output's failure is none of the network
+log_tells : (held : Option (List HeldFile)) (bounds : RunBounds) (plan : Plan) (site : Site) → Telling held (ServesWithLog bounds plan site)
+log_tells held bounds plan site seen status (heading_unwritten e) = ended held seen status 7 e.1 (omega arith, omega arith)
+log_tells held bounds plan site seen status (has_logged logged.Stopped shown end ran e) = ended held seen status 0 e.1 (omega arith, omega arith)
+log_tells held bounds plan site seen status (has_logged logged.Failed shown end ran e) =
+    six_only held seen status (same_status status 6 e.1)
+    (subst NetFails (sym e.0) (subst (λ (x : List Sighting). 1 ≤ break_count (happened_in x)) (sym (sightings_logged (heading_of plan site) network_line shown))
+    (subst (λ (x : List Sighting). 1 ≤ break_count (happened_in x)) (sym (ran.run.whole ∙ ap (λ (x : List Sighting). ran.run.first ++ x) ran.run.other.saw)) (breaks_at_end ran.run.first))))
+log_tells held bounds plan site seen status (has_logged logged.Spent shown end ran e) = ended held seen status 8 e.1 (omega arith, omega arith)
+log_tells held bounds plan site seen status (has_logged logged.Unwritten shown end ran e) = ended held seen status 7 e.1 (omega arith, omega arith)
+
+taken_tells : (held : Option (List HeldFile)) → Telling held TakesLog
+taken_tells held seen status (log_taken a is) = went held seen status tt is
+taken_tells held seen status (log_memory e) = ended held seen status 9 e.1 (omega arith, omega arith)
+
 breaks_among : (deeds : List operation.Deed) (rest : List Deed) → 1 ≤ break_count (operation.happened_in deeds) → NetFails (deeds_of deeds ++ rest)
 breaks_among [] rest breaks = absurd (omega (arith, breaks))
 breaks_among (happens (heard e) ∷ deeds) rest breaks = breaks_among deeds rest breaks
@@ -351,6 +370,11 @@ does_tell held kinds (Serve plan budget idle) =
     then_tells held (ReadsPlanned held plan) (ServesPlanned plan kinds budget idle) (planned_tells held plan)
     (λ (p : Planned). then_tells held (Opens plan kinds p) (λ site. AndThen (Listens (place_of p.plan (idle * 1000))) (λ _. ServesBy budget p.plan.exchanges p.plan.epoch site)) (open_tells held plan kinds p)
     (λ site. then_tells held (Listens (place_of p.plan (idle * 1000))) (λ _. ServesBy budget p.plan.exchanges p.plan.epoch site) (listen_tells held (place_of p.plan (idle * 1000))) (λ _. serve_by_tells held budget p.plan.exchanges p.plan.epoch site)))
+does_tell held kinds (ServeLogged plan budget idle) =
+    then_tells held (ReadsPlanned held plan) (LogsPlanned plan kinds budget idle) (planned_tells held plan)
+    (λ (p : Planned). then_tells held (Opens plan kinds p) (λ site. AndThen TakesLog (λ _. ListensAndLogs budget idle p.plan site)) (open_tells held plan kinds p)
+    (λ site. then_tells held TakesLog (λ _. ListensAndLogs budget idle p.plan site) (taken_tells held)
+    (λ _. then_tells held (Listens (place_of p.plan (idle * 1000))) (λ _. ServesWithLog (bounds_of budget site) p.plan site) (listen_tells held (place_of p.plan (idle * 1000))) (λ _. log_tells held (bounds_of budget site) p.plan site))))
 does_tell held kinds (Check description) =
     then_tells held (ReadsFile held longest_json description) (Checks description) (file_tells held longest_json description)
     (λ content. then_tells held (ReadsTree description content) Judges (tree_tells held description content) (judge_tells held))

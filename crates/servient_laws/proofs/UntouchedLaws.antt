@@ -10,7 +10,7 @@ use Rattle.thing_handler.specs.Turns.{GrewBy, CountMisses, RackShows}
 use Rattle.thing_site.specs.Exposing.{kinds_of}
 use Rattle.command_words.specs.Grammar.{meaning_of}
 use Rattle.command_words.specs.declared.command.Command.{Command}
-use Rattle.command_words.specs.declared.command.Command.TheVariants.{Replay, Serve, Check, Derive, Table, Consume, Storm, Discover}
+use Rattle.command_words.specs.declared.command.Command.TheVariants.{Replay, Serve, ServeLogged, Check, Derive, Table, Consume, Storm, Discover}
 use Rattle.servient_outside.specs.declared.files.HeldFile.{HeldFile}
 use Rattle.servient_outside.specs.declared.place.Place.{Place}
 use Rattle.servient_outside.specs.Network.{event_in, events_in}
@@ -28,6 +28,10 @@ use Rattle.command_stages.specs.Deriving.{ReadsPlan, is_plan, is_no_plan, plan_m
 use Rattle.command_stages.specs.Tabling.{PrintsTable, is_tabled, is_tabled_with, table_memory, Tables}
 use Rattle.servient_cli.specs.Opening.{Exposes, is_exposed, is_misfit, expose_memory, Opens}
 use Rattle.servient_cli.specs.Listening.{Listens, is_listening, cannot_listen, place_memory, listen_memory, ServesEvents, has_served, Endures, has_endured, ServesBy, ServesPlanned}
+use Rattle.servient_core.specs.declared.sections.RunBounds.{RunBounds}
+use Rattle.servient_plan.specs.declared.plan.Plan.{Plan}
+use Rattle.logged_serving.specs.declared.serving.LoggedEnd.TheVariants as logged
+use Rattle.servient_cli.specs.LoggedServing.{bounds_of, TakesLog, log_taken, log_memory, ServesWithLog, heading_unwritten, has_logged, ListensAndLogs, LogsPlanned}
 use Rattle.servient_cli.specs.Command.{Does, Commands, is_no_command, is_command, words_memory, IsNoCommand, is_serving, IsReported}
 use Rattle.command_stages.proofs.StageLaws.{seen_among}
 use Rattle.servient_trace.specs.ShownSections.{Shown, seen_in, ShowsInSections}
@@ -35,71 +39,9 @@ use Rattle.servient_core.specs.declared.sections.SectionsEnd.TheVariants as endi
 use Rattle.servient_trace.proofs.ShownLaws.{nothing_shown}
 use Rattle.command_words.specs.declared.command.Budget.{Budget}
 use Rattle.command_words.specs.declared.command.Budget.TheVariants as budgets
-use Rattle.servient_laws.specs.Untouched.{TookNothing, EndsSo, MayHaveServed, FaultsTakeNoEvent, calls_nothing, HandlersStay}
-
--- ---- deeds of which nothing is seen
-
-abbrev IsUnseen : List Deed → Type 0
-IsUnseen seen = showings_in seen ≡ []
-
-unseen_then : (a b seen : List Deed) → seen ≡ a ++ b → IsUnseen a → IsUnseen b → IsUnseen seen
-unseen_then a b seen whole one other = ap showings_in whole ∙ filter_map-append showing_in a b ∙ ap₂ (λ (x y : List Shown). x ++ y) one other
-
--- a stage of which nothing is seen
-abbrev Quiet : {A : Type 0} → (List Deed → Outcome A → Type 0) → Type 0
-Quiet {A} P = (seen : List Deed) (o : Outcome A) → P seen o → IsUnseen seen
-
-then_unseen : {A B : Type 0} (P : List Deed → Outcome A → Type 0) (Q : A → List Deed → Outcome B → Type 0) → Quiet P → ((x : A) → Quiet (Q x)) → Quiet (AndThen P Q)
-then_unseen P Q one other seen o (ends_first status stage is) = one seen (ends status) stage
-then_unseen P Q one other seen o (goes_further (x, w)) = unseen_then w.first w.second seen w.whole (one w.first (goes_on x) w.one) (other x w.second o w.other)
-
-file_unseen : (held : Option (List HeldFile)) (limit : ℕ) (name : List ℕ) → Quiet (ReadsFile held limit name)
-file_unseen held limit name seen o (is_read content short holds saw goes) = ap showings_in saw
-file_unseen held limit name seen o (is_absent holds end) = ap showings_in end.0
-file_unseen held limit name seen o (is_unreadable end) = ap showings_in end.0
-file_unseen held limit name seen o (is_long holds end) = ap showings_in end.0
-file_unseen held limit name seen o (file_memory first (is_not_read none) end) = ap showings_in end.0 ∙ ap (λ (ds : List Deed). showings_in (ds ++ did_write memory_line ∷ [])) none
-file_unseen held limit name seen o (file_memory first (has_been_read is) end) = ap showings_in end.0 ∙ ap (λ (ds : List Deed). showings_in (ds ++ did_write memory_line ∷ [])) is
-file_unseen held limit name seen o (file_memory first (has_failed is) end) = ap showings_in end.0 ∙ ap (λ (ds : List Deed). showings_in (ds ++ did_write memory_line ∷ [])) is
-
-tree_unseen : (name content : List ℕ) → Quiet (ReadsTree name content)
-tree_unseen name content seen o (is_tree tree read saw goes) = ap showings_in saw
-tree_unseen name content seen o (has_no_tree what none why end) = ap showings_in end.0
-tree_unseen name content seen o (tree_memory end) = ap showings_in end.0
-
-plan_unseen : (name : List ℕ) (tree : _) → Quiet (ReadsPlan name tree)
-plan_unseen name tree seen o (is_plan plan is saw goes) = ap showings_in saw
-plan_unseen name tree seen o (is_no_plan pointer isnt end) = ap showings_in end.0
-plan_unseen name tree seen o (plan_memory end) = ap showings_in end.0
-
-added_unseen : (models : Models) (url file : List ℕ) (tree : _) → Quiet (AddsModel models url file tree)
-added_unseen models url file tree seen o (is_added may saw goes) = ap showings_in saw
-added_unseen models url file tree seen o (is_not_added what why end) = ap showings_in end.0
-added_unseen models url file tree seen o (add_memory end) = ap showings_in end.0
-
-models_unseen : (held : Option (List HeldFile)) (left : List (List ℕ × List ℕ)) (models : Models) → Quiet (TakesModels held left models)
-models_unseen held [] models seen o is = ap showings_in is.0
-models_unseen held (model ∷ left) models seen o stage =
-    then_unseen (TakesModel held model models) (TakesModels held left)
-    (then_unseen (ReadsFile held longest_json model.1) (λ content. AndThen (ReadsTree model.1 content) (AddsModel models model.0 model.1)) (file_unseen held longest_json model.1)
-    (λ content. then_unseen (ReadsTree model.1 content) (AddsModel models model.0 model.1) (tree_unseen model.1 content) (added_unseen models model.0 model.1)))
-    (models_unseen held left) seen o stage
-
-planned_unseen : (held : Option (List HeldFile)) (name : List ℕ) → Quiet (ReadsPlanned held name)
-planned_unseen held name =
-    then_unseen (ReadsFile held longest_json name) (λ content. AndThen (ReadsTree name content) (λ tree. AndThen (ReadsPlan name tree) (λ plan. AndThen (TakesModels held plan.models []) (IsPlanned plan))))
-    (file_unseen held longest_json name) (λ content.
-    then_unseen (ReadsTree name content) (λ tree. AndThen (ReadsPlan name tree) (λ plan. AndThen (TakesModels held plan.models []) (IsPlanned plan))) (tree_unseen name content) (λ tree.
-    then_unseen (ReadsPlan name tree) (λ plan. AndThen (TakesModels held plan.models []) (IsPlanned plan)) (plan_unseen name tree) (λ plan.
-    then_unseen (TakesModels held plan.models []) (IsPlanned plan) (models_unseen held plan.models []) (λ models seen o end. put_together plan models seen o end))))
-  where
-    put_together : (plan : _) (models : Models) → Quiet (IsPlanned plan models)
-    put_together plan models seen o (is_planned saw goes) = ap showings_in saw
-
-derived_unseen : (p : Planned) → Quiet (Derives p)
-derived_unseen p seen o (is_derived things is saw goes) = ap showings_in saw
-derived_unseen p seen o (is_refused fault is end) = ap showings_in end.0
-derived_unseen p seen o (derive_memory end) = ap showings_in end.0
+use Rattle.servient_cli.specs.LoggedServing.{TookNothing}
+use Rattle.servient_cli.proofs.UnseenStages.{IsUnseen, Quiet, then_unseen, file_unseen, tree_unseen, planned_unseen, derived_unseen, exposed_unseen, untaken, taken_unseen, listens_untaken}
+use Rattle.servient_laws.specs.Untouched.{EndsSo, MayHaveServed, FaultsTakeNoEvent, calls_nothing, HandlersStay}
 
 printed_unseen : (things : _) → Quiet (Prints things)
 printed_unseen things seen o (is_printed end) = ap showings_in end.0
@@ -109,11 +51,6 @@ tabled_unseen : (name : List ℕ) (kinds : List Kind) (plan : _) (things : _) �
 tabled_unseen name kinds plan things seen o (is_tabled none end) = ap showings_in end.0
 tabled_unseen name kinds plan things seen o (is_tabled_with fault isnt first end) = ap showings_in end.0
 tabled_unseen name kinds plan things seen o (table_memory end) = ap showings_in end.0
-
-exposed_unseen : (name : List ℕ) (kinds : List Kind) (plan : _) (things : _) → Quiet (Exposes name kinds plan things)
-exposed_unseen name kinds plan things seen o (is_exposed none saw goes) = ap showings_in saw
-exposed_unseen name kinds plan things seen o (is_misfit fault isnt first end) = ap showings_in end.0
-exposed_unseen name kinds plan things seen o (expose_memory end) = ap showings_in end.0
 
 judged_unseen : (tree : _) → Quiet (Judges tree)
 judged_unseen tree seen o (is_valid none end) = ap showings_in end.0
@@ -132,6 +69,7 @@ quiet_command held kinds (Table plan) is =
     then_unseen (ReadsPlanned held plan) (Tables plan kinds) (planned_unseen held plan) (λ p. then_unseen (Derives p) (PrintsTable plan kinds p.plan) (derived_unseen p) (tabled_unseen plan kinds p.plan))
 quiet_command held kinds (Replay script plan events) is = absurd cc
 quiet_command held kinds (Serve plan budget idle) is = absurd cc
+quiet_command held kinds (ServeLogged plan budget idle) is = absurd cc
 quiet_command held kinds (Storm seed events) is = absurd cc
 quiet_command held kinds (Consume consumption) is = absurd cc
 quiet_command held kinds (Discover host port) is = absurd cc
@@ -169,9 +107,6 @@ handlers_stay words before now out out_now result ended known =
 
 -- ---- serving
 
-untaken : (seen : List Deed) → IsUnseen seen → TookNothing seen
-untaken seen unseen = ap (λ (x : List Sighting). events_in (happened_in x)) (sym (seen_among seen) ∙ ap seen_in unseen)
-
 untaken_then : (a b seen : List Deed) → seen ≡ a ++ b → TookNothing a → TookNothing b → TookNothing seen
 untaken_then a b seen whole one other =
     ap (λ (ds : List Deed). events_in (happened_in (sightings_in ds))) whole
@@ -190,13 +125,6 @@ after_unseen P Q one other seen o (goes_further (x, w)) = elim (other x w.second
   | inl none ↦ inl (untaken_then w.first w.second seen w.whole (untaken w.first (one w.first (goes_on x) w.one)) none)
   | inr served ↦ inr served
 ]
-
--- listening takes none
-listens_untaken : (place : Place) (seen : List Deed) (o : Outcome (Unit {0})) → Listens place seen o → TookNothing seen
-listens_untaken place seen o (is_listening saw goes) = ap (λ (ds : List Deed). events_in (happened_in (sightings_in ds))) saw
-listens_untaken place seen o (cannot_listen end) = ap (λ (ds : List Deed). events_in (happened_in (sightings_in ds))) end.0
-listens_untaken place seen o (place_memory end) = ap (λ (ds : List Deed). events_in (happened_in (sightings_in ds))) end.0
-listens_untaken place seen o (listen_memory end) = ap (λ (ds : List Deed). events_in (happened_in (sightings_in ds))) end.0
 
 events_settle : (budget exchanges : ℕ) (epoch : Option ℕ) (site : Site) → Settles (ServesEvents budget exchanges epoch site)
 events_settle budget exchanges epoch site seen o (has_served served.Stopped ran end serves out) = inr (0, out.1, inl refl)
@@ -226,6 +154,28 @@ serve_settles held kinds plan budget idle =
     (then_unseen (Derives p) (Exposes plan kinds p.plan) (derived_unseen p) (exposed_unseen plan kinds p.plan))
     (λ site. listens_then (place_of p.plan (idle * 1000)) budget p.plan.exchanges p.plan.epoch site))
 
+-- the same with a log
+log_settles : (bounds : RunBounds) (plan : Plan) (site : Site) → Settles (ServesWithLog bounds plan site)
+log_settles bounds plan site seen o (heading_unwritten out) = inr (7, out.1, inr (inr (inr refl)))
+log_settles bounds plan site seen o (has_logged logged.Stopped shown end ran out) = inr (0, out.1, inl refl)
+log_settles bounds plan site seen o (has_logged logged.Failed shown end ran out) = inr (6, out.1, inr (inl refl))
+log_settles bounds plan site seen o (has_logged logged.Spent shown end ran out) = inr (8, out.1, inr (inr (inl refl)))
+log_settles bounds plan site seen o (has_logged logged.Unwritten shown end ran out) = inr (7, out.1, inr (inr (inr refl)))
+
+logs_then : (budget : Budget) (idle : ℕ) (plan : Plan) (site : Site) → Settles (ListensAndLogs budget idle plan site)
+logs_then budget idle plan site seen o (ends_first status stage is) = inl (listens_untaken (place_of plan (idle * 1000)) seen (ends status) stage)
+logs_then budget idle plan site seen o (goes_further (x, w)) = elim (log_settles (bounds_of budget site) plan site w.second o w.other) [
+  | inl none ↦ inl (untaken_then w.first w.second seen w.whole (listens_untaken (place_of plan (idle * 1000)) w.first (goes_on x) w.one) none)
+  | inr served ↦ inr served
+]
+
+logging_settles : (held : Option (List HeldFile)) (kinds : List Kind) (plan : List ℕ) (budget : Budget) (idle : ℕ) → Settles (Does held kinds (ServeLogged plan budget idle))
+logging_settles held kinds plan budget idle =
+    after_unseen (ReadsPlanned held plan) (LogsPlanned plan kinds budget idle) (planned_unseen held plan)
+    (λ p. after_unseen (Opens plan kinds p) (λ site. AndThen TakesLog (λ _. ListensAndLogs budget idle p.plan site))
+    (then_unseen (Derives p) (Exposes plan kinds p.plan) (derived_unseen p) (exposed_unseen plan kinds p.plan))
+    (λ site. after_unseen TakesLog (λ _. ListensAndLogs budget idle p.plan site) taken_unseen (λ _. logs_then budget idle p.plan site)))
+
 abbrev ends_as : ℕ → Outcome (Unit {0})
 ends_as status = ends status
 
@@ -235,6 +185,10 @@ same_end m n e = cc
 serving_settles : (held : Option (List HeldFile)) (kinds : List Kind) (command : Command) (seen : List Deed) (status : ℕ) → is_serving (Some command) ≡ true → Does held kinds command seen (ends status)
     → TookNothing seen ⊎ MayHaveServed status
 serving_settles held kinds (Serve plan budget idle) seen status is does = elim (serve_settles held kinds plan budget idle seen (ends status) does) [
+  | inl none ↦ inl none
+  | inr (other, same, served) ↦ inr (subst MayHaveServed (same_end other status (sym same)) served)
+]
+serving_settles held kinds (ServeLogged plan budget idle) seen status is does = elim (logging_settles held kinds plan budget idle seen (ends status) does) [
   | inl none ↦ inl none
   | inr (other, same, served) ↦ inr (subst MayHaveServed (same_end other status (sym same)) served)
 ]
@@ -256,6 +210,6 @@ pub faults_take_no_event : FaultsTakeNoEvent
 faults_take_no_event words before now out out_now result ended serving none = by (words_settle before.files.held (kinds_of before.outside.slots) words ended.seen ended.status serving ended.stage) ended.reported
   where
     by : TookNothing ended.seen ⊎ MayHaveServed ended.status → IsReported ended.status (text_in ended.seen) out out_now result → EndsSo TookNothing words before now out out_now result
-    by (inl untook) reported = record { seen = ended.seen; status = ended.status; stage = (ended.stage, untook); shows = ended.shows; reported = ended.reported; no_failure = ended.no_failure }
+    by (inl untook) reported = record { seen = ended.seen; status = ended.status; stage = (ended.stage, untook); shows = ended.shows; reported = ended.reported; no_failure = ended.no_failure; in_turn = ended.in_turn }
     by (inr may) (inl same) = absurd (none (subst MayHaveServed (sym same.0) may))
     by (inr may) (inr seven) = absurd (none (inr (inr (inr seven.0))))

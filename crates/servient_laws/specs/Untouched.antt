@@ -1,23 +1,18 @@
 -- The parts that the top call leaves alone, by its words and its status.
-use Rattle.std.specs.Prelude.{◌≡◌, ◌⊎◌, ℕ, Bool, true, false, List, [], Option, Some}
+use Rattle.std.specs.Prelude.{◌≡◌, ◌⊎◌, ℕ, Bool, true, false, List, Option, Some}
 use Rattle.thing_site.specs.Exposing.{kinds_of}
 use Rattle.command_words.specs.Grammar.{meaning_of}
 use Rattle.command_words.specs.declared.command.Command.{Command}
 use Rattle.command_words.specs.declared.command.Command.TheVariants.{Check, Derive, Table}
-use Rattle.servient_outside.specs.Network.{events_in}
 use Rattle.servient_outside.specs.Out.{OutSeen}
-use Rattle.servient_trace.specs.Trace.{happened_in}
-use Rattle.command_stages.specs.Stages.{Deed, sightings_in, Around}
-use Rattle.servient_cli.specs.Command.{Commands, EndsAndReports, Ends, IsNoCommand, is_serving}
-
--- no event was taken from the network
-abbrev pub TookNothing : List Deed → Type 0
-TookNothing seen = events_in (happened_in (sightings_in seen)) ≡ []
+use Rattle.command_stages.specs.Stages.{Deed, Around}
+use Rattle.servient_cli.specs.LoggedServing.{TookNothing}
+use Rattle.servient_cli.specs.Command.{Commands, EndsAndReports, Ends, IsNoCommand, is_logging, is_serving}
 
 -- The promise of the top call, `Ends`, where this is known besides of its deeds.
 abbrev pub EndsSo : (List Deed → Type 0) → List (List ℕ) → Around → Around → OutSeen → OutSeen → ℕ → Type 0
 EndsSo Known words before now out out_now result =
-    EndsAndReports (λ seen o. Commands before.files.held (kinds_of before.outside.slots) words seen o × Known seen) before now out out_now result
+    EndsAndReports (is_logging (meaning_of words)) (λ seen o. Commands before.files.held (kinds_of before.outside.slots) words seen o × Known seen) before now out out_now result
 
 -- events may have been taken: serving stopped, the network failed, the budget was spent, or the output failed
 abbrev pub MayHaveServed : ℕ → Type 0

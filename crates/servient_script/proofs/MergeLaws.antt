@@ -108,7 +108,7 @@ pub record IsNext (number slot : ℕ) (by_slot : List (List Turn)) (turns : List
   pub has : (d : List Turn) → get_or by_slot slot d ≡ kept_turn turn ∷ turns_of_slot slot more
   pub left : IsMerged (number + 1) (set by_slot slot (turns_of_slot slot more)) more
 
-next_of : (number slot : ℕ) (by_slot : List (List Turn)) (turns : List RunTurn) → IsMerged number by_slot turns → position (begins_with number) by_slot ≡ Some slot → IsNext number slot by_slot turns
+pub next_of : (number slot : ℕ) (by_slot : List (List Turn)) (turns : List RunTurn) → IsMerged number by_slot turns → position (begins_with number) by_slot ≡ Some slot → IsNext number slot by_slot turns
 next_of number slot by_slot [] merged found =
     let at = position-Some (begins_with number) by_slot slot [] found in
     absurd (omega (arith, at.0, none_found number slot by_slot found (none_begins number 0 by_slot merged.split)))
@@ -136,7 +136,7 @@ next_of number slot by_slot (t ∷ more) merged found =
       };
     }
 
-none_left : (number : ℕ) (by_slot : List (List Turn)) (turns : List RunTurn) → IsMerged number by_slot turns → position (begins_with number) by_slot ≡ None → turns ≡ []
+pub none_left : (number : ℕ) (by_slot : List (List Turn)) (turns : List RunTurn) → IsMerged number by_slot turns → position (begins_with number) by_slot ≡ None → turns ≡ []
 none_left number by_slot [] merged none = refl
 none_left number by_slot (t ∷ more) merged none =
     let within = merged.slots.0 in
@@ -234,9 +234,9 @@ as_many_since turns from [] (k ∷ after) grew = absurd grew
 as_many_since turns from (h ∷ before) [] grew = absurd grew
 as_many_since turns from (h ∷ before) (k ∷ after) grew = ap (λ (n : ℕ). suc n) (as_many_since turns (suc from) before after grew.2)
 
--- the turns of a run, where these handlers kept them
-pub merged_since : (calls : List HandlerCall) (before after : List Seen) (counts : List ℕ) (by_slot : List (List Turn)) → counts ≡ counts_of before → by_slot ≡ turns_after counts after → RackShows before after calls → AreNumberedFrom 0 (turns_in calls) → IsMerged 0 by_slot (turns_in calls)
-merged_since calls before after counts by_slot counted kept shows numbered =
+-- the turns of a part of a run, from this number on, where these handlers kept them
+pub merged_from : (first : ℕ) (calls : List HandlerCall) (before after : List Seen) (counts : List ℕ) (by_slot : List (List Turn)) → counts ≡ counts_of before → by_slot ≡ turns_after counts after → RackShows before after calls → AreNumberedFrom first (turns_in calls) → IsMerged first by_slot (turns_in calls)
+merged_from first calls before after counts by_slot counted kept shows numbered =
     let turns = turns_in calls in
     let whole : by_slot ≡ turns_after (counts_of before) after = kept ∙ ap (λ (ns : List ℕ). turns_after ns after) counted in
     record {
@@ -244,6 +244,10 @@ merged_since calls before after counts by_slot counted kept shows numbered =
       slots = within_still (length before) (length by_slot) turns (ap (λ (ls : List (List Turn)). length ls) whole ∙ as_many_since turns 0 before after shows.turns) shows.slots;
       split = subst (λ (ls : List (List Turn)). AreSplit turns 0 ls) (sym whole) (split_since turns 0 before after shows.turns);
     }
+
+-- those of a whole run
+pub merged_since : (calls : List HandlerCall) (before after : List Seen) (counts : List ℕ) (by_slot : List (List Turn)) → counts ≡ counts_of before → by_slot ≡ turns_after counts after → RackShows before after calls → AreNumberedFrom 0 (turns_in calls) → IsMerged 0 by_slot (turns_in calls)
+merged_since = merged_from 0
 
 pub have_kept : (calls : List HandlerCall) (before after : List Seen) (counts : List ℕ) → counts ≡ counts_of before → RackShows before after calls → HaveKept counts after
 have_kept calls before after counts counted shows =

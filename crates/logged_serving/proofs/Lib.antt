@@ -1,0 +1,3 @@
+pub mod LogTexts
+pub mod Counting
+pub mod LoggedRounds

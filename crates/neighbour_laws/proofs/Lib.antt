@@ -1,1 +1,3 @@
 pub mod EventParts
+pub mod HeardParts
+pub mod AskerLaws

@@ -3,7 +3,7 @@ use Rattle.std.proofs.Common.{◌≡◌, ◌∙◌, ℕ, Bool, true, false, cond
 use Rattle.std.specs.Prelude.{Option, Some, None, All, Contains}
 use Rattle.std.proofs.lemmas.List.{append-nil}
 use Rattle.std.proofs.lemmas.List.Elements.{All-nil, All-cons, All-head, All-tail, All-append, All-push, All-map, All-filter, All-weaker, All-contains, Contains-append_left, Contains-append_right, Contains-append_cases}
-use Rattle.std.proofs.lemmas.List.Folds.{find-contains}
+use Rattle.neighbour_laws.proofs.Lists.{found_all}
 use Rattle.servient_base.specs.Moves.{Each}
 use Rattle.coap_msg.specs.declared.endpoint.Endpoint.{Endpoint}
 use Rattle.coap_observe.specs.declared.observer.Observer.{Observer}
@@ -94,7 +94,7 @@ module _ (P : Endpoint → Type 0) where
     are : AreOf us
 
   found_is : (test : Observer → Bool) (ws : List Observer) (w : Observer) (n : Notice) (id number : ℕ) (fresh : Bool) → find test ws ≡ Some w → IsNotification w id number fresh n → AreOf ws → P n.to
-  found_is test ws w n id number fresh found is all = subst P (sym is.to) (All-contains (λ (v : Observer). P v.from) ws w all (find-contains test ws w found))
+  found_is test ws w n id number fresh found is all = subst P (sym is.to) (found_all (λ (v : Observer). P v.from) test ws w found all)
 
   sent_are : (now id : ℕ) (ws us : List Observer) (n : Option Notice) → Sends now id ws n us → AreOf ws → AreSent n us
   sent_are now id ws us o (same w x n _ found plain had is after) all =
@@ -192,7 +192,7 @@ event_goes_by site e seen a s t k w hears sends =
     let none : datagrams_in w.first ≡ [] = ap datagrams_in w.one.saw in
     let first : AllGo seen w.first = all_go seen w.first (λ d there. absurd (no_datagram d (contains_same (datagrams_in w.first) [] d none there))) in
     let second : AllGo (seen ++ w.first) w.second = all_go (seen ++ w.first) w.second (λ d there.
-        sends each.to d (contains_same _ _ d (sym (ap datagrams_in w.whole ∙ seen_both w.first w.second)) (Contains-append_right (datagrams_in w.first) (datagrams_in w.second) d there))) in
+    sends each.to d (contains_same _ _ d (sym (ap datagrams_in w.whole ∙ seen_both w.first w.second)) (Contains-append_right (datagrams_in w.first) (datagrams_in w.second) d there))) in
     record {
       goes = subst (λ (l : List Sighting). AllGo [] l) (sym whole) (all_go_both [] (seen ++ w.first) w.second (all_go_both [] seen w.first k.goes first) second);
       are = All-weaker (λ (v : Observer). P v.from) (λ (v : Observer). HasSpoken v.from (seen ++ a))
@@ -224,7 +224,6 @@ datagram_goes site now from size bytes seen a s t k w =
   where
     P : Endpoint → Type 0
     P to = HasSpoken to (seen ++ w.first)
-
     course = follows_course site (what.Datagram from size) bytes (record w.mid { moment = max w.mid.moment now }) w.other.mid w.other.first w.other.one
 
     spoke : P from
@@ -248,7 +247,6 @@ other_goes site now v bytes seen a s t plain k w =
   where
     P : Endpoint → Type 0
     P to = HasSpoken to (seen ++ w.first)
-
     happened = other_happened site v bytes (record w.mid { moment = max w.mid.moment now }) w.other.mid w.other.first plain w.other.one
 
 event_goes : (site : Site) (e : EventWithBytes) (seen a : List Sighting) (s t : State) → Spoke seen s → EventAndStep site e s a t → Spoke (seen ++ a) t

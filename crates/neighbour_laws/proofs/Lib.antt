@@ -1,3 +1,4 @@
+pub mod Lists
 pub mod EventParts
 pub mod HeardParts
 pub mod AskerLaws

@@ -1,2 +1,3 @@
 pub mod Askers
+pub mod Neighbours
 pub mod Converging

@@ -13,8 +13,9 @@ use Rattle.coap_observe.specs.Watching.{Watching, where_so, with_first, is_due, 
 use Rattle.coap_bind.specs.declared.observing.Effect.{Effect}
 use Rattle.coap_bind.specs.declared.server.Server.{Server}
 use Rattle.coap_bind.specs.Observing.{Watches, leaves, cancels, registers}
-use Rattle.coap_bind.specs.Server.{with_next_id, with_observers, with_notification_sent, with_emitted, SendsNext, Answers, asked}
-use Rattle.thing_state.specs.State.{State as ThingState}
+use Rattle.coap_bind.specs.Server.{with_emitted, with_bodies, with_observers, SendsNext, asked}
+use Rattle.coap_bind.specs.Blocks.{bodies_after}
+use Rattle.thing_state.specs.State.{State as ThingState, Emission}
 use Rattle.servient_outside.specs.declared.net.What.{What}
 use Rattle.servient_outside.specs.declared.net.What.TheVariants as what
 use Rattle.servient_outside.specs.declared.net.EventWithBytes.{EventWithBytes}
@@ -23,13 +24,13 @@ use Rattle.servient_outside.specs.declared.net.Act.TheVariants as act
 use Rattle.servient_outside.specs.Network.{heard, did, broke}
 use Rattle.servient_trace.specs.Trace.{Sighting, at_network, at_handler}
 use Rattle.servient_core.specs.Machine.{Site, State, start, notification_bytes, Step, EventAndStep, Run}
-use Rattle.servient_ends.specs.Ends.{datagrams_in, datagrams_at, notifications_in, event_at, back_of}
+use Rattle.servient_ends.specs.Ends.{datagrams_in, datagrams_at, emitted_by, notifications_in, event_at, back_of}
 use Rattle.servient_ends.proofs.SeenLaws.{seen_both, back_to, noticed, hearing_sends, doing_sends}
 use Rattle.servient_ends.proofs.StepParts.{IsNoDatagram, with_targets, targets_in, other_happened}
 use Rattle.neighbour_laws.specs.Askers.{HasSpoken, DatagramsGoToAskers}
 use Rattle.neighbour_laws.specs.Converging.{Deed}
-use Rattle.neighbour_laws.proofs.EventParts.{Hearing, is_passed, is_heard, is_answered, HearingOf, Course, follows_course, SendsEach, Ends, event_ends}
-use Rattle.neighbour_laws.proofs.HeardParts.{Told, leaves_all, acknowledges, rejects, cancels_one, hears_told, asked_from, replied_observers}
+use Rattle.neighbour_laws.proofs.EventParts.{Hearing, is_passed, is_heard, is_answered, Course, follows_course, happened_course, SendsEach, Ends, event_ends}
+use Rattle.neighbour_laws.proofs.HeardParts.{Told, leaves_all, acknowledges, rejects, cancels_one, hears_told, asked_from, replied_observers, next_observers}
 
 -- ---- what stays of observers
 
@@ -50,17 +51,13 @@ module _ (P : Endpoint → Type 0) where
 
   first_are : (test : Observer → Bool) (change : Observer → Observer) → ((w : Observer) → (change w).from ≡ w.from) → (ws : List Observer) → AreOf ws → AreOf (with_first test change ws)
   first_are test change keeps [] all = all
-  first_are test change keeps (w ∷ ws) all = by (test w)
+  first_are test change keeps (w ∷ ws) all =
+      by (test w) (All-head (λ (v : Observer). P v.from) w ws all) (All-tail (λ (v : Observer). P v.from) w ws all)
+      (first_are test change keeps ws (All-tail (λ (v : Observer). P v.from) w ws all))
     where
-      p : P w.from
-      p = All-head (λ (v : Observer). P v.from) w ws all
-
-      rest : AreOf ws
-      rest = All-tail (λ (v : Observer). P v.from) w ws all
-
-      by : (b : Bool) → AreOf (cond b (change w ∷ ws) (w ∷ with_first test change ws))
-      by true = All-cons (λ (v : Observer). P v.from) (change w) ws (subst P (sym (keeps w)) p) rest
-      by false = All-cons (λ (v : Observer). P v.from) w (with_first test change ws) p (first_are test change keeps ws rest)
+      by : (b : Bool) → P w.from → AreOf ws → AreOf (with_first test change ws) → AreOf (cond b (change w ∷ ws) (w ∷ with_first test change ws))
+      by true p rest further = All-cons (λ (v : Observer). P v.from) (change w) ws (subst P (sym (keeps w)) p) rest
+      by false p rest further = All-cons (λ (v : Observer). P v.from) w (with_first test change ws) p further
 
   told_are : (from : Endpoint) (old new : Watching) → Told from old new → AreOf old.list → AreOf new.list
   told_are from old new (leaves_all is) all = subst (λ (w : Watching). AreOf w.list) (sym is) all
@@ -105,17 +102,9 @@ module _ (P : Endpoint → Type 0) where
       record { to = found_is (is_sendable ws) ws w n _ _ true found is all; are = subst AreOf (sym after) (first_are (is_sendable ws) (notified now id) (λ v. refl) ws all) }
   sent_are now id ws us o (nothing _ none free after) all = record { to = tt; are = subst AreOf (sym after) all }
 
-  noticed_observers : (n : Option Notice) (s : Server) → (with_notification_sent n s).observers ≡ s.observers
-  noticed_observers None s = refl
-  noticed_observers (Some n) s = by n.fresh
-    where
-      by : (b : Bool) → (cond b (with_next_id s) s).observers ≡ s.observers
-      by true = refl
-      by false = refl
-
   next_are : (now : ℕ) (n : Option Notice) (s t : Server) → SendsNext now n s t → AreOf s.observers.list → AreSent n t.observers.list
   next_are now n s t sends all =
-      let is : t.observers ≡ sends.observers = ap (λ (x : Server). x.observers) sends.after ∙ noticed_observers n (with_observers sends.observers s) in
+      let is : t.observers ≡ sends.observers = next_observers now n s t sends in
       let x = sent_are now s.next_id sends.notifies.left sends.observers.list n sends.notifies.sends (given_up_are now s.observers.list sends.notifies.left sends.notifies.gives_up all) in
       record { to = x.to; are = subst (λ (w : Watching). AreOf w.list) (sym is) x.are }
 
@@ -135,7 +124,7 @@ module _ (P : Endpoint → Type 0) where
   heard_are from bytes now deeds s t (is_passed stays none) p all = subst (λ (x : Server). AreOf x.observers.list) (sym stays) all
   heard_are from bytes now deeds s t (is_heard h hears none) p all = told_are from s.observers t.observers (hears_told from bytes now h s t hears) all
   heard_are from bytes now deeds s t (is_answered ask r o target reply u hears a none) p all =
-      subst (λ (w : Watching). AreOf w.list) (sym (replied_observers _ r.slot reply _ t a.replies.after))
+      subst (λ (w : Watching). AreOf w.list) (sym (replied_observers r.kind r.slot reply (with_bodies (bodies_after r.blocks r.from o u.bodies) (with_observers a.observers u)) t a.replies.after))
       (watched_are _ r.from r.token u.observers a.observe a.observers a.watches (subst P (sym (asked_from from bytes now ask r s u hears)) p)
       (told_are from s.observers u.observers (hears_told from bytes now (asked ask r) s u hears) all))
 
@@ -154,7 +143,7 @@ AllGo before [] = Unit {0}
 AllGo before (x ∷ later) = Go before (x ∷ []) × AllGo (before ++ x ∷ []) later
 
 contains_same : (a b : List (Endpoint × List ℕ)) (d : Endpoint × List ℕ) → a ≡ b → Contains a d → Contains b d
-contains_same a b d same there = subst (λ (l : List (Endpoint × List ℕ)). Contains l d) same there
+contains_same a b d is there = subst (λ (l : List (Endpoint × List ℕ)). Contains l d) is there
 
 all_go : (before a : List Sighting) → Go before a → AllGo before a
 all_go before [] go = tt
@@ -213,41 +202,51 @@ replies_go P from said p d there = All-contains (λ (x : Endpoint × List ℕ). 
     are_back [] = All-nil (λ (x : Endpoint × List ℕ). P x.0)
     are_back (bytes ∷ said) = All-cons (λ (x : Endpoint × List ℕ). P x.0) (from, bytes) (back_to from said) p (are_back said)
 
--- the observers at the moment of the event are those before
+abbrev moved : ℕ → State → State
+moved now s = record s { moment = max s.moment now }
+
+-- the observers after a course are of endpoints that spoke
+course_are : (P : Endpoint → Type 0) (es : List Emission) (H : Server → Server → Type 0) (s t : State) → Course H es s t
+    → ((c : Server) → H s.coap c → AreOf P c.observers.list) → AreOf P t.coap.observers.list
+course_are P es H s t c hears =
+    subst (λ (x : Server). AreOf P x.observers.list) (sym c.coap) (emitted_are P (targets_in es) c.after (hears c.after c.hearing))
+
 datagram_goes : (site : Site) (now : ℕ) (from : Endpoint) (size : ℕ) (bytes : List ℕ) (seen a : List Sighting) (s t : State) → Spoke seen s
     → EventAndStep site (event_at now (what.Datagram from size) bytes) s a t → Spoke (seen ++ a) t
 datagram_goes site now from size bytes seen a s t k w =
-    event_goes_by site (event_at now (what.Datagram from size) bytes) seen a s t k w
-    (λ all. subst (AreOf P) (sym (ap (λ (x : Server). x.observers.list) course.coap))
-    (emitted_are P (targets_in _) course.after (heard_are P from bytes _ _ _ course.after course.hearing spoke (subst (λ (x : State). AreOf P x.coap.observers.list) (sym w.one.next) all))))
-    (λ notices d there. by (Contains-append_cases _ _ d (contains_same _ _ d (hearing_sends site now from size bytes s t a w) there)) notices)
-  where
-    P : Endpoint → Type 0
-    P to = HasSpoken to (seen ++ w.first)
-    course = follows_course site (what.Datagram from size) bytes (record w.mid { moment = max w.mid.moment now }) w.other.mid w.other.first w.other.one
-
-    spoke : P from
-    spoke = record {
-      event = event_at now (what.Datagram from size) bytes;
+    let it : EventWithBytes = event_at now (what.Datagram from size) bytes in
+    let m : State = moved now w.mid in
+    let spoke : HasSpoken from (seen ++ w.first) = record {
+      event = it;
       size = size;
-      came = Contains-append_right seen w.first _ (subst (λ (l : List Sighting). Contains l (at_network (heard (event_at now (what.Datagram from size) bytes)))) (sym w.one.saw) (0, omega arith, refl));
+      came = Contains-append_right seen w.first (at_network (heard it)) (subst (λ (l : List Sighting). Contains l (at_network (heard it))) (sym w.one.saw) (0, omega arith, refl));
       is_its = refl;
-    }
-
-    by : {d : Endpoint × List ℕ} → Contains (back_to from (back_of site from bytes _ w.other.first w.other.mid w.other.one)) d ⊎ Contains (noticed t.thing (notifications_in w.other.mid w.other.second t w.other.other)) d
-        → All (λ (n : Notice). P n.to) (notifications_in w.other.mid w.other.second t w.other.other) → P d.0
-    by {d} (inl back) notices = replies_go P from (back_of site from bytes _ w.other.first w.other.mid w.other.one) spoke d back
-    by {d} (inr notice) notices = notices_go P t.thing _ notices d notice
+    } in
+    event_goes_by site it seen a s t k w
+    (λ all. course_are (λ to. HasSpoken to (seen ++ w.first)) _ _ m w.other.mid (follows_course site (what.Datagram from size) bytes m w.other.mid w.other.first w.other.one)
+    (λ c hearing. heard_are (λ to. HasSpoken to (seen ++ w.first)) from bytes m.moment _ m.coap c hearing spoke
+    (subst (λ (x : State). AreOf (λ to. HasSpoken to (seen ++ w.first)) x.coap.observers.list) (sym w.one.next) all)))
+    (λ notices d there. either (seen ++ w.first) from (back_of site from bytes m w.other.first w.other.mid w.other.one) t.thing
+    (notifications_in w.other.mid w.other.second t w.other.other) spoke notices d (contains_same _ _ d (hearing_sends site now from size bytes s t a w) there))
+  where
+    either : (before : List Sighting) (from : Endpoint) (back : List (List ℕ)) (thing : ThingState) (ns : List Notice) → HasSpoken from before → All (λ (n : Notice). HasSpoken n.to before) ns
+        → (d : Endpoint × List ℕ) → Contains (back_to from back ++ noticed thing ns) d → HasSpoken d.0 before
+    either before from back thing ns spoke notices d there = by (Contains-append_cases (back_to from back) (noticed thing ns) d there)
+      where
+        by : Contains (back_to from back) d ⊎ Contains (noticed thing ns) d → HasSpoken d.0 before
+        by (inl one) = replies_go (λ to. HasSpoken to before) from back spoke d one
+        by (inr other) = notices_go (λ to. HasSpoken to before) thing ns notices d other
 
 other_goes : (site : Site) (now : ℕ) (v : What) (bytes : List ℕ) (seen a : List Sighting) (s t : State) → IsNoDatagram v → Spoke seen s → EventAndStep site (event_at now v bytes) s a t → Spoke (seen ++ a) t
 other_goes site now v bytes seen a s t plain k w =
+    let m : State = moved now w.mid in
     event_goes_by site (event_at now v bytes) seen a s t k w
-    (λ all. subst (AreOf P) (sym (ap (λ (x : Server). x.observers.list) happened.coap)) (emitted_are P (targets_in _) _ (subst (λ (x : State). AreOf P x.coap.observers.list) (sym w.one.next) all)))
-    (λ notices d there. notices_go P t.thing _ notices d (contains_same _ _ d (doing_sends site now v bytes s t a plain w) there))
-  where
-    P : Endpoint → Type 0
-    P to = HasSpoken to (seen ++ w.first)
-    happened = other_happened site v bytes (record w.mid { moment = max w.mid.moment now }) w.other.mid w.other.first plain w.other.one
+    (λ all. course_are (λ to. HasSpoken to (seen ++ w.first)) (emitted_by site v bytes m w.other.first w.other.mid w.other.one) (λ (b c : Server). (c ≡ b) × (◌≡◌ {A = List Deed} [] [])) m w.other.mid
+    (happened_course (emitted_by site v bytes m w.other.first w.other.mid w.other.one) m w.other.mid (other_happened site v bytes m w.other.mid w.other.first plain w.other.one))
+    (λ c is. subst (λ (x : Server). AreOf (λ to. HasSpoken to (seen ++ w.first)) x.observers.list) (sym is.0)
+    (subst (λ (x : State). AreOf (λ to. HasSpoken to (seen ++ w.first)) x.coap.observers.list) (sym w.one.next) all)))
+    (λ notices d there. notices_go (λ to. HasSpoken to (seen ++ w.first)) t.thing (notifications_in w.other.mid w.other.second t w.other.other) notices d
+    (contains_same _ _ d (doing_sends site now v bytes s t a plain w) there))
 
 event_goes : (site : Site) (e : EventWithBytes) (seen a : List Sighting) (s t : State) → Spoke seen s → EventAndStep site e s a t → Spoke (seen ++ a) t
 event_goes site e seen a s t k w = by e.event.what refl

@@ -132,7 +132,7 @@ HearingOf (what.Ended c) bytes now deeds s t = (t ≡ s) × (deeds ≡ [])
 HearingOf what.Tick bytes now deeds s t = (t ≡ s) × (deeds ≡ [])
 HearingOf what.Stop bytes now deeds s t = (t ≡ s) × (deeds ≡ [])
 
-happened_course : (es : List Emission) (s t : State) → Happened es s t → Course (λ (a b : Server). (b ≡ a) × ([] {A = Deed} ≡ [])) es s t
+pub happened_course : (es : List Emission) (s t : State) → Happened es s t → Course (λ (a b : Server). (b ≡ a) × (◌≡◌ {A = List Deed} [] [])) es s t
 happened_course es s t h = record { after = s.coap; hearing = (refl, refl); coap = h.coap; moment = h.moment; last = h.thing.last }
 
 pub follows_course : (site : Site) (w : What) (bytes : List ℕ) (s t : State) (seen : List Sighting) → (f : Follows site w bytes s seen t)

@@ -8,7 +8,9 @@ use Rattle.coap_msg.specs.declared.message.Type4.TheVariants.{Con, Non, Ack, Rst
 use Rattle.coap_msg.specs.declared.message.RequestType.{RequestType}
 use Rattle.coap_msg.specs.declared.message.RequestType.TheVariants.{Confirmable, NonConfirmable}
 use Rattle.coap_msg.specs.Grammar.{CoapMessage}
+use Rattle.coap_msg.specs.Requests.{request_type}
 use Rattle.coap_msg.specs.Empty.{empty_reply, rejection_of}
+use Rattle.coap_observe.specs.declared.notice.Notice.{Notice}
 use Rattle.coap_observe.specs.Watching.{Watching, with_acknowledgement, with_reset, without_pair}
 use Rattle.coap_opts.specs.Reading.{AskSeen, asked as what_is_asked}
 use Rattle.coap_bind.specs.declared.observing.Observing.{Observing}
@@ -16,8 +18,8 @@ use Rattle.coap_bind.specs.declared.observing.Observing.TheVariants as observing
 use Rattle.coap_bind.specs.declared.pending.PendingReply.{PendingReply}
 use Rattle.coap_bind.specs.declared.server.Server.{Server}
 use Rattle.coap_bind.specs.Links.{observers_with_links}
-use Rattle.coap_bind.specs.Writing.{ReplyHead, head_in}
-use Rattle.coap_bind.specs.Server.{Heard, ignored, answered_at_once, asked, Hears, settled, admitted, malformed, no_request, duplicate, full, Reads, replied, bad_option_ignored, gives_links, asks, asks_whole, Replies, Answers, with_id_used, with_kept, told_by, told_by_empty, replied_at_once, duplicate_reply, pending_of, pending_joined, observing_in, with_whole_body}
+use Rattle.coap_bind.specs.Writing.{head_of}
+use Rattle.coap_bind.specs.Server.{Heard, ignored, answered_at_once, asked, Hears, settled, admitted, malformed, no_request, duplicate, full, Reads, replied, bad_option_ignored, gives_links, asks, asks_whole, with_id_used, with_kept, with_parts, links_given, told_by, told_by_empty, replied_at_once, duplicate_reply, pending_of, pending_joined, with_next_id, with_observers, with_notification_sent, SendsNext, observing_in, with_whole_body}
 
 -- ---- observers
 
@@ -62,10 +64,10 @@ pub replied_observers : (k : RequestType) (slot : ℕ) (bytes : List ℕ) (s t :
 replied_observers k slot bytes s t after = ap (λ (x : Server). x.observers) after ∙ (kept_observers k slot bytes (with_id_used k s) ∙ id_observers k s)
 
 read_told : (from : Endpoint) (now : ℕ) (m : CoapMessage) (slot : ℕ) (h : Heard) (s t : Server) → Reads from now m slot h s t → Told from s.observers t.observers
-read_told from now m slot h s t (replied r parts bytes why replies is) = leaves_all (replied_observers _ slot bytes _ t replies.after)
+read_told from now m slot h s t (replied r parts bytes why replies is) = leaves_all (replied_observers (head_of m).kind slot bytes (with_parts parts s) t replies.after)
 read_told from now m slot h s t (bad_option_ignored number first non is after) = leaves_all (ap (λ (x : Server). x.observers) after)
 read_told from now m slot h s t (gives_links bytes none acts links get replies is) =
-    told_same from s.observers (observers_with_links (observing_in m) from m.token s.observers) t.observers (replied_observers _ slot bytes _ t replies.after) (by_links (observing_in m) from m.token s.observers)
+    told_same from s.observers (observers_with_links (observing_in m) from m.token s.observers) t.observers (replied_observers (head_of m).kind slot bytes (links_given from now m.token (observing_in m) (what_is_asked m) s) t replies.after) (by_links (observing_in m) from m.token s.observers)
 read_told from now m slot h s t (asks none acts apart is after) = leaves_all (ap (λ (x : Server). x.observers) after)
 read_told from now m slot h s t (asks_whole b place parts whole none joins apart adds there is after) = leaves_all (ap (λ (x : Server). x.observers) after)
 
@@ -74,9 +76,21 @@ hears_told from bytes now h s t (settled (malformed f fault is after)) = leaves_
 hears_told from bytes now h s t (settled (no_request m spells isnt is after)) =
     told_same from s.observers (told_by from m s.observers) t.observers (ap (λ (x : Server). x.observers) after) (by_message from m s.observers)
 hears_told from bytes now h s t (settled (duplicate m kept e met found is)) = leaves_all met.same_observers
-hears_told from bytes now h s t (settled (full m u met is after)) = leaves_all (ap (λ (x : Server). x.observers) after ∙ (id_observers _ u ∙ met.same_observers))
+hears_told from bytes now h s t (settled (full m u met is after)) = leaves_all (ap (λ (x : Server). x.observers) after ∙ (id_observers (request_type m.kind) u ∙ met.same_observers))
 hears_told from bytes now h s t (admitted m slot u met reads) =
     subst (λ (w : Watching). Told from w t.observers) met.same_observers (read_told from now m slot h u t reads)
+
+-- what is sent next leaves these observers
+noticed_observers : (n : Option Notice) (s : Server) → (with_notification_sent n s).observers ≡ s.observers
+noticed_observers None s = refl
+noticed_observers (Some n) s = by n.fresh
+  where
+    by : (b : Bool) → (cond b (with_next_id s) s).observers ≡ s.observers
+    by true = refl
+    by false = refl
+
+pub next_observers : (now : ℕ) (n : Option Notice) (s t : Server) → (sends : SendsNext now n s t) → t.observers ≡ sends.observers
+next_observers now n s t sends = ap (λ (x : Server). x.observers) sends.after ∙ noticed_observers n (with_observers sends.observers s)
 
 -- ---- the request that is to be answered
 
@@ -112,6 +126,6 @@ read_pending from now m slot ask r s t (asks_whole b place parts whole none join
 pub asked_from : (from : Endpoint) (bytes : List ℕ) (now : ℕ) (ask : AskSeen) (r : PendingReply) (s t : Server) → Hears from bytes now (asked ask r) s t → r.from ≡ from
 asked_from from bytes now ask r s t (settled (malformed f fault is after)) = absurd (never_sent (rejection_of bytes) ask r is)
 asked_from from bytes now ask r s t (settled (no_request m spells isnt is after)) = absurd (never_sent (empty_reply m.kind m.id false) ask r is)
-asked_from from bytes now ask r s t (settled (duplicate m kept e met found is)) = absurd (never_repeated _ e.reply ask r is)
+asked_from from bytes now ask r s t (settled (duplicate m kept e met found is)) = absurd (never_repeated (request_type m.kind) e.reply ask r is)
 asked_from from bytes now ask r s t (settled (full m u met is after)) = absurd (let e : asked ask r ≡ answered_at_once _ = is in cc)
 asked_from from bytes now ask r s t (admitted m slot u met reads) = (read_pending from now m slot ask r u t reads).endpoint

@@ -10,20 +10,20 @@ use Rattle.coap_blocks.proofs.Lists.{rest_of}
 -- what holds of all holds of the one that is found
 pub found_all : {X : Type 0} (P : X → Type 0) (test : X → Bool) (xs : List X) (x : X) → find test xs ≡ Some x → All P xs → P x
 found_all P test [] x found all = absurd (let e : None ≡ Some x = found in cc)
-found_all {X} P test (y ∷ xs) x found all = by (test y) found
+found_all {X} P test (y ∷ xs) x found all = by (test y) found (λ is. found_all P test xs x is (All-tail P y xs all))
   where
-    by : (b : Bool) → cond b (Some y) (find test xs) ≡ Some x → P x
-    by true is = subst P (same_Some y x is) (All-head P y xs all)
-    by false is = found_all P test xs x is (All-tail P y xs all)
+    by : (b : Bool) → cond b (Some y) (find test xs) ≡ Some x → (find test xs ≡ Some x → P x) → P x
+    by true is rest = subst P (same_Some y x is) (All-head P y xs all)
+    by false is rest = rest is
 
 -- the one that is found passes
 pub found_is : {X : Type 0} (test : X → Bool) (xs : List X) (x : X) → find test xs ≡ Some x → test x ≡ true
 found_is test [] x found = absurd (let e : None ≡ Some x = found in cc)
-found_is {X} test (y ∷ xs) x found = by (test y) refl found
+found_is {X} test (y ∷ xs) x found = by (test y) refl found (λ is. found_is test xs x is)
   where
-    by : (b : Bool) → test y ≡ b → cond b (Some y) (find test xs) ≡ Some x → test x ≡ true
-    by true at is = subst (λ (z : X). test z ≡ true) (same_Some y x is) at
-    by false at is = found_is test xs x is
+    by : (b : Bool) → test y ≡ b → cond b (Some y) (find test xs) ≡ Some x → (find test xs ≡ Some x → test x ≡ true) → test x ≡ true
+    by true at is rest = subst (λ (z : X). test z ≡ true) (same_Some y x is) at
+    by false at is rest = rest is
 
 -- ---- a test
 
@@ -88,37 +88,38 @@ filter_map {X} q f keeps (x ∷ xs) = ap (λ (d : Bool). cond d (f x ∷ filter 
 -- the first of others is changed
 pub first_of_others : {X : Type 0} (q p : X → Bool) (f : X → X) (xs : List X) (w : X) → find p xs ≡ Some w → q w ≡ false → ((x : X) → q (f x) ≡ q x) → filter q (with_first p f xs) ≡ filter q xs
 first_of_others q p f [] w found other keeps = refl
-first_of_others {X} q p f (x ∷ xs) w found other keeps = by (p x) found
+first_of_others {X} q p f (x ∷ xs) w found other keeps = by (p x) found (λ is. first_of_others q p f xs w is other keeps)
   where
-    by : (b : Bool) → cond b (Some x) (find p xs) ≡ Some w → filter q (cond b (f x ∷ xs) (x ∷ with_first p f xs)) ≡ cond (q x) (x ∷ filter q xs) (filter q xs)
-    by true is =
+    by : (b : Bool) → cond b (Some x) (find p xs) ≡ Some w → (find p xs ≡ Some w → filter q (with_first p f xs) ≡ filter q xs)
+        → filter q (cond b (f x ∷ xs) (x ∷ with_first p f xs)) ≡ cond (q x) (x ∷ filter q xs) (filter q xs)
+    by true is rest =
         let here : q x ≡ false = ap q (same_Some x w is) ∙ other in
         ap (λ (d : Bool). cond d (f x ∷ filter q xs) (filter q xs)) (keeps x ∙ here) ∙ sym (ap (λ (d : Bool). cond d (x ∷ filter q xs) (filter q xs)) here)
-    by false is = ap (λ (l : List X). cond (q x) (x ∷ l) l) (first_of_others q p f xs w is other keeps)
+    by false is rest = ap (λ (l : List X). cond (q x) (x ∷ l) l) (rest is)
 
 -- or the first of the part
 pub first_of_own : {X : Type 0} (q p : X → Bool) (f : X → X) (xs : List X) (w : X) → find p xs ≡ Some w → q w ≡ true → ((x : X) → q (f x) ≡ q x) → filter q (with_first p f xs) ≡ with_first p f (filter q xs)
 first_of_own q p f [] w found own keeps = refl
-first_of_own {X} q p f (x ∷ xs) w found own keeps = by (p x) (q x) refl refl found
+first_of_own {X} q p f (x ∷ xs) w found own keeps = by (p x) (q x) refl refl found (λ is. first_of_own q p f xs w is own keeps)
   where
-    by : (b c : Bool) → p x ≡ b → q x ≡ c → cond b (Some x) (find p xs) ≡ Some w → filter q (cond b (f x ∷ xs) (x ∷ with_first p f xs)) ≡ with_first p f (cond c (x ∷ filter q xs) (filter q xs))
-    by true true t u is =
+    by : (b c : Bool) → p x ≡ b → q x ≡ c → cond b (Some x) (find p xs) ≡ Some w → (find p xs ≡ Some w → filter q (with_first p f xs) ≡ with_first p f (filter q xs)) → filter q (cond b (f x ∷ xs) (x ∷ with_first p f xs)) ≡ with_first p f (cond c (x ∷ filter q xs) (filter q xs))
+    by true true t u is rest =
         ap (λ (d : Bool). cond d (f x ∷ filter q xs) (filter q xs)) (keeps x ∙ u) ∙ sym (ap (λ (d : Bool). cond d (f x ∷ filter q xs) (x ∷ with_first p f (filter q xs))) t)
-    by true false t u is = absurd (never (q w) own (sym (ap q (same_Some x w is)) ∙ u))
-    by false true t u is =
+    by true false t u is rest = absurd (never (q w) own (sym (ap q (same_Some x w is)) ∙ u))
+    by false true t u is rest =
         ap (λ (d : Bool). cond d (x ∷ filter q (with_first p f xs)) (filter q (with_first p f xs))) u
-        ∙ ap (λ (l : List X). x ∷ l) (first_of_own q p f xs w is own keeps) ∙ sym (ap (λ (d : Bool). cond d (f x ∷ filter q xs) (x ∷ with_first p f (filter q xs))) t)
-    by false false t u is = ap (λ (d : Bool). cond d (x ∷ filter q (with_first p f xs)) (filter q (with_first p f xs))) u ∙ first_of_own q p f xs w is own keeps
+        ∙ ap (λ (l : List X). x ∷ l) (rest is) ∙ sym (ap (λ (d : Bool). cond d (f x ∷ filter q xs) (x ∷ with_first p f (filter q xs))) t)
+    by false false t u is rest = ap (λ (d : Bool). cond d (x ∷ filter q (with_first p f xs)) (filter q (with_first p f xs))) u ∙ rest is
 
 -- where none is found, none is found in a part
 pub none_of_part : {X : Type 0} (p q : X → Bool) (xs : List X) → find p xs ≡ None → find p (filter q xs) ≡ None
 none_of_part p q [] none = refl
-none_of_part {X} p q (x ∷ xs) none = by (p x) (q x) refl none
+none_of_part {X} p q (x ∷ xs) none = by (p x) (q x) refl none (λ is. none_of_part p q xs is)
   where
-    by : (b c : Bool) → p x ≡ b → cond b (Some x) (find p xs) ≡ None → find p (cond c (x ∷ filter q xs) (filter q xs)) ≡ None
-    by true c t is = absurd (let e : Some x ≡ None = is in cc)
-    by false true t is = ap (λ (d : Bool). cond d (Some x) (find p (filter q xs))) t ∙ none_of_part p q xs is
-    by false false t is = none_of_part p q xs is
+    by : (b c : Bool) → p x ≡ b → cond b (Some x) (find p xs) ≡ None → (find p xs ≡ None → find p (filter q xs) ≡ None) → find p (cond c (x ∷ filter q xs) (filter q xs)) ≡ None
+    by true c t is rest = absurd (let e : Some x ≡ None = is in cc)
+    by false true t is rest = ap (λ (d : Bool). cond d (Some x) (find p (filter q xs))) t ∙ rest is
+    by false false t is rest = rest is
 
 -- whether one of the part passes a test that only those of the part pass
 pub any_of_part : {X : Type 0} (p q : X → Bool) → ((x : X) → p x ≡ true → q x ≡ true) → (xs : List X) → list_any p (filter q xs) ≡ list_any p xs

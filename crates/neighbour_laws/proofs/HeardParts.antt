@@ -99,14 +99,14 @@ pub record IsOf (from : Endpoint) (slot : ℕ) (pending : PendingReply) : Type 0
   pub endpoint : pending.from ≡ from
   pub slot_is : pending.slot ≡ slot
 
-same_pending : (a b : AskSeen) (r q : PendingReply) → asked a r ≡ asked b q → r ≡ q
+pub same_pending : (a b : AskSeen) (r q : PendingReply) → asked a r ≡ asked b q → r ≡ q
 same_pending a b r q same = cc
 
-never_sent : (o : Option CoapMessage) (ask : AskSeen) (r : PendingReply) → asked ask r ≡ replied_at_once o → ⊥
+pub never_sent : (o : Option CoapMessage) (ask : AskSeen) (r : PendingReply) → asked ask r ≡ replied_at_once o → ⊥
 never_sent None ask r e = cc
 never_sent (Some m) ask r e = cc
 
-never_repeated : (kind : RequestType) (o : Option (List ℕ)) (ask : AskSeen) (r : PendingReply) → asked ask r ≡ duplicate_reply kind o → ⊥
+pub never_repeated : (kind : RequestType) (o : Option (List ℕ)) (ask : AskSeen) (r : PendingReply) → asked ask r ≡ duplicate_reply kind o → ⊥
 never_repeated Confirmable None ask r e = cc
 never_repeated Confirmable (Some bytes) ask r e = cc
 never_repeated NonConfirmable o ask r e = cc

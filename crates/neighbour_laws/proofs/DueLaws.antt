@@ -143,7 +143,7 @@ sendable_of_part x ws = All-weaker (λ (w : Observer). is_from x w ≡ true) (λ
     each : (w : Observer) → is_from x w ≡ true → is_sendable ws w ≡ is_sendable (observers_of x ws) w
     each w mine =
         ap (λ (b : Bool). w.is_marked && not b) (sym (any_of_part (is_busy w.from) (is_from x) (λ v busy.
-            subst (λ (e : Endpoint). is_same_endpoint x e ≡ true) (same_endpoint x w.from mine ∙ same_endpoint w.from v.from (both (is_some v.notification) (is_same_endpoint w.from v.from) busy).1) (itself x)) ws))
+        subst (λ (e : Endpoint). is_same_endpoint x e ≡ true) (same_endpoint x w.from mine ∙ same_endpoint w.from v.from (both (is_some v.notification) (is_same_endpoint w.from v.from) busy).1) (itself x)) ws))
 
 found_sendable : (x : Endpoint) (ws : List Observer) (w : Observer) → find (is_sendable ws) ws ≡ Some w → is_from x w ≡ true → find (is_sendable (observers_of x ws)) (observers_of x ws) ≡ Some w
 found_sendable x ws w found mine =

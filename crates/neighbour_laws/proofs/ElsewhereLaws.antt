@@ -1,5 +1,7 @@
 -- The exchanges, the bodies and the parts of one endpoint, once a datagram of another came.
-use Rattle.std.proofs.Common.{◌≡◌, ◌∙◌, ◌+◌, ◌-◌, ◌≤◌, ◌<◌, ℕ, zero, suc, Bool, true, false, not, cond, List, [], ◌∷◌, ◌++◌, map, filter, find, length, drop, get_or, refl, sym, ap, subst, arith, length-append, length-drop, cases_eq, ⊎_elim}
+use Rattle.std.proofs.Common.{◌≡◌, ◌∙◌, ◌+◌, ◌-◌, ◌≤◌, ◌<◌, ℕ, zero, suc, Bool, true, false, not, cond, List, [], ◌∷◌, ◌++◌, map, filter, find, length, drop, get_or, refl, sym, ap, subst, arith, length-append, length-drop}
+use Rattle.std.proofs.Math.Logic.{⊎_elim}
+use Rattle.std.proofs.lemmas.Bool.{cases_eq}
 use Rattle.std.specs.Prelude.{Option, Some, None, ◌==◌, ◌&&◌, nat_lt, slice_set}
 use Rattle.std.specs.List.{position, remove}
 use Rattle.std.proofs.lemmas.List.{append-nil}

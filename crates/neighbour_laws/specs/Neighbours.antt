@@ -14,7 +14,7 @@ use Rattle.coap_bind.specs.declared.server.Server.{Server}
 use Rattle.thing_state.specs.State.{Emission}
 use Rattle.http_bind.specs.declared.owed.Owed.{Owed}
 use Rattle.http_bind.specs.declared.waits.Wait.{Wait}
-use Rattle.http_bind.specs.Streams.{Connection, Streams, connection_at, other_waits, is_late, is_idle, after_reply}
+use Rattle.http_bind.specs.Streams.{Connection, Streams, connection_at, is_wait_of, other_waits, is_late, is_idle, after_reply}
 use Rattle.servient_outside.specs.declared.net.What.{What}
 use Rattle.servient_outside.specs.declared.net.What.TheVariants as what
 use Rattle.servient_outside.specs.declared.net.EventWithBytes.{EventWithBytes}
@@ -60,12 +60,21 @@ abbrev pub waits_besides : Option ℕ → List Wait → List Wait
 waits_besides None waits = waits
 waits_besides (Some d) waits = other_waits d waits
 
--- A connection is as it was. Or it waited, and was replied to; or it was idle, and was closed.
+-- the wait of a connection, if it waits
+abbrev pub waits_of : ℕ → List Wait → List Wait
+waits_of c waits = filter (is_wait_of c) waits
+
+-- A connection is as it was, and so is its wait. Or its wait was answered, and it was replied to; or it was idle, and was
+-- closed.
 pub data IsLeft (c now : ℕ) (answered : Wait → Bool) (h k : Streams) : Type 0 where
-  as_it_was : connection_at c k ≡ connection_at c h → IsLeft c now answered h k
-  was_replied : (w : Wait) (x : Connection) (owed : Owed) → Contains h.waits w → w.connection ≡ c → answered w ≡ true → connection_at c h ≡ Some x → x.owed ≡ Some owed
-      → connection_at c k ≡ after_reply owed.closes now x → IsLeft c now answered h k
-  was_closed : is_idle now (connection_at c h) ≡ true → connection_at c k ≡ None → IsLeft c now answered h k
+  as_it_was : connection_at c k ≡ connection_at c h → waits_of c k.waits ≡ waits_of c h.waits → IsLeft c now answered h k
+  was_replied : (w : Wait) (x : Connection) (owed : Owed) → Contains (waits_of c h.waits) w → answered w ≡ true → connection_at c h ≡ Some x → x.owed ≡ Some owed
+      → connection_at c k ≡ after_reply owed.closes now x → waits_of c k.waits ≡ [] → IsLeft c now answered h k
+  was_closed : is_idle now (connection_at c h) ≡ true → connection_at c k ≡ None → waits_of c k.waits ≡ [] → IsLeft c now answered h k
+
+-- the waits that are left are in the order in which they were: those of some connections
+abbrev pub AreInOrder : List Wait → List Wait → Type 0
+AreInOrder old new = (stays : ℕ → Bool) × (new ≡ filter (λ w. stays w.connection) old)
 
 -- ---- endpoints (RFC 7252, RFC 7641, RFC 7959)
 
@@ -110,11 +119,10 @@ pub record LeavesEndpoint (x : Endpoint) (now : ℕ) (targets : List ℕ) (s t :
 
 -- ---- the sentence
 
--- What is others' once this came, and these targets had new values. The waits that are left are in the order in which
--- they were.
+-- What is others' once this came, and these targets had new values.
 pub record LeavesOthers (w : What) (targets : List ℕ) (s t : State) : Type 0 where
   pub connections : (c : ℕ) → is_other (connection_of w) c ≡ true → IsLeft c t.moment (is_answered t.moment targets) s.http t.http
-  pub waits : waits_besides (connection_of w) t.http.waits ≡ filter (λ x. not (is_answered t.moment targets x)) (waits_besides (connection_of w) s.http.waits)
+  pub waits : AreInOrder (waits_besides (connection_of w) s.http.waits) (waits_besides (connection_of w) t.http.waits)
   pub endpoints : (x : Endpoint) → is_elsewhere (endpoint_of w) x ≡ true → LeavesEndpoint x t.moment targets s.coap t.coap
 
 -- "Neighbours don't matter": so it is of each event of each run.

@@ -87,7 +87,7 @@ bodies_left x from old new other few (puts_one b of is) = by (position own old) 
     -- the list is full
     crowded : (l : List Body) → old ≡ l → position own old ≡ None → length l ≡ most_bodies → KeepsBodies x old new
     crowded [] same none full =
-        let small : length ([] {A = Body}) ≡ most_bodies = full in
+        let small : 0 ≡ most_bodies = full in
         all_stay (ap (bodies_of x) (is ∙ (ap (λ (o : Option ℕ). last most_bodies (without_place o old ++ b ∷ [])) none ∙ (ap (λ (k : List Body). last most_bodies (k ++ b ∷ [])) same ∙ ap (λ (n : ℕ). last n (b ∷ [])) (sym small)))) ∙ sym (ap (bodies_of x) same))
     crowded (oldest ∷ rest) same none full =
         let long = length-append (oldest ∷ rest) (b ∷ []) in

@@ -4,4 +4,6 @@ pub mod HeardParts
 pub mod HearingLaws
 pub mod ElsewhereLaws
 pub mod DueLaws
+pub mod StreamLaws
 pub mod AskerLaws
+pub mod NeighbourLaws

@@ -1,8 +1,18 @@
 //! Laws on neighbours.
 
 ghost use Rattle.neighbour_laws.specs.Askers.{DatagramsGoToAskers};
+ghost use Rattle.neighbour_laws.specs.Neighbours.{NeighboursDoNotMatter};
 
 /// Each datagram that a run sends goes to an endpoint from which the run took one before.
 pub fn datagrams_go_to_askers()
     ensures { DatagramsGoToAskers }
+{}
+
+/// An event of one connection or of one endpoint leaves each other connection with its wait as it was, unless the wait is
+/// answered, since its target had a new value or it was too long, or the connection is idle and is closed. It leaves the
+/// living exchanges with their replies and the living parts of each other endpoint as they were. The observers of that
+/// endpoint are those that it would have if it were alone, and of its bodies one goes at most, the oldest of all, where 16
+/// were kept and a further one was put.
+pub fn neighbours_do_not_matter()
+    ensures { NeighboursDoNotMatter }
 {}

@@ -4,8 +4,10 @@
 //! it.
 //!
 //! - Each datagram that is sent goes to an endpoint from which one came: `datagrams_go_to_askers`.
+//! - What comes from one connection or one endpoint leaves what is another's, but for what it emits and what the moment
+//!   makes due: `neighbours_do_not_matter`.
 #![tactic(auto)]
 
 mod laws;
 
-pub use laws::datagrams_go_to_askers;
+pub use laws::{datagrams_go_to_askers, neighbours_do_not_matter};

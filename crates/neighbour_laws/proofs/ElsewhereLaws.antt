@@ -31,7 +31,7 @@ use Rattle.neighbour_laws.proofs.Lists.{never, FailsAt, filter_apart, filter_com
 pub beside : {X : Type 0} (q : X → Bool) (xs : List X) (x : X) → q x ≡ false → filter q (xs ++ x ∷ []) ≡ filter q xs
 beside {X} q xs x other = filter-append q xs (x ∷ []) ∙ (ap (λ (b : Bool). filter q xs ++ cond b (x ∷ []) []) other ∙ append-nil (filter q xs))
 
-twice : {X : Type 0} (p : X → Bool) (xs : List X) → filter p (filter p xs) ≡ filter p xs
+pub twice : {X : Type 0} (p : X → Bool) (xs : List X) → filter p (filter p xs) ≡ filter p xs
 twice p xs = filter_apart p p (λ x is. is) xs
 
 -- ---- exchanges

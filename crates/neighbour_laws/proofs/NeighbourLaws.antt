@@ -108,7 +108,7 @@ each_same now (n ∷ ns) s t (m, one, more) = same_then s m t (next_same now (So
 
 -- ---- an event
 
-moved_now : (site : Site) (e : EventWithBytes) (s t : State) (seen : List Sighting) → EventAndStep site e s seen t → State
+abbrev moved_now : (site : Site) (e : EventWithBytes) (s t : State) (seen : List Sighting) → EventAndStep site e s seen t → State
 moved_now site e s t seen w = record w.mid { moment = max w.mid.moment e.event.moment }
 
 endpoint_left : (site : Site) (e : EventWithBytes) (s t : State) (seen : List Sighting) (w : EventAndStep site e s seen t) (x : Endpoint) → length s.coap.bodies ≤ most_bodies → is_elsewhere (endpoint_of e.event.what) x ≡ true
@@ -161,15 +161,15 @@ event_few site e s t seen w few =
     same_then course.after w.other.mid.coap t.coap (subst (SameTables course.after) (sym course.coap) (values_same _ course.after))
     (same_then w.other.mid.coap ends.between t.coap (each_same w.other.mid.moment _ w.other.mid.coap ends.between ends.sends) (next_same w.other.mid.moment None ends.between t.coap ends.last)) in
     subst (λ (l : List Body). length l ≤ most_bodies) (sym same.bodies)
-    (by e.event.what m.coap course.after (subst (λ (c : Server). length c.bodies ≤ most_bodies) (sym (ap (λ (y : State). y.coap) w.one.next)) few) course.hearing)
+    (by e.event.what e.bytes m.moment _ m.coap course.after (subst (λ (c : Server). length c.bodies ≤ most_bodies) (sym (ap (λ (y : State). y.coap) w.one.next)) few) course.hearing)
   where
-    by : {bytes : List ℕ} {now : ℕ} {deeds : List Deed} (v : What) (a b : Server) → length a.bodies ≤ most_bodies → HearingOf v bytes now deeds a b → length b.bodies ≤ most_bodies
-    by (what.Datagram from size) a b less h = few_bodies from a.bodies b.bodies (hearing_all from _ _ _ a b h).bodies less
-    by (what.Opened c) a b less h = subst (λ (x : Server). length x.bodies ≤ most_bodies) (sym h.0) less
-    by (what.Bytes c size) a b less h = subst (λ (x : Server). length x.bodies ≤ most_bodies) (sym h.0) less
-    by (what.Ended c) a b less h = subst (λ (x : Server). length x.bodies ≤ most_bodies) (sym h.0) less
-    by what.Tick a b less h = subst (λ (x : Server). length x.bodies ≤ most_bodies) (sym h.0) less
-    by what.Stop a b less h = subst (λ (x : Server). length x.bodies ≤ most_bodies) (sym h.0) less
+    by : (v : What) (bytes : List ℕ) (now : ℕ) (deeds : List Deed) (a b : Server) → length a.bodies ≤ most_bodies → HearingOf v bytes now deeds a b → length b.bodies ≤ most_bodies
+    by (what.Datagram from size) bytes now deeds a b less h = few_bodies from a.bodies b.bodies (hearing_all from bytes now deeds a b h).bodies less
+    by (what.Opened c) bytes now deeds a b less h = subst (λ (x : Server). length x.bodies ≤ most_bodies) (sym h.0) less
+    by (what.Bytes c size) bytes now deeds a b less h = subst (λ (x : Server). length x.bodies ≤ most_bodies) (sym h.0) less
+    by (what.Ended c) bytes now deeds a b less h = subst (λ (x : Server). length x.bodies ≤ most_bodies) (sym h.0) less
+    by what.Tick bytes now deeds a b less h = subst (λ (x : Server). length x.bodies ≤ most_bodies) (sym h.0) less
+    by what.Stop bytes now deeds a b less h = subst (λ (x : Server). length x.bodies ≤ most_bodies) (sym h.0) less
 
 run_few : (site : Site) (took : List EventWithBytes) (s t : State) (seen : List Sighting) → Run site took s seen t → length s.coap.bodies ≤ most_bodies → length t.coap.bodies ≤ most_bodies
 run_few site [] s t seen stays few = subst (λ (x : State). length x.coap.bodies ≤ most_bodies) (sym stays.next) few

@@ -7,3 +7,4 @@ pub mod DueLaws
 pub mod StreamLaws
 pub mod AskerLaws
 pub mod NeighbourLaws
+pub mod ToldLaws

@@ -158,7 +158,7 @@ event_few site e s t seen w few =
     let course = follows_course site e.event.what e.bytes m w.other.mid w.other.first w.other.one in
     let ends = event_ends w.other.mid t w.other.second w.other.other in
     let same : SameTables course.after t.coap =
-    same_then course.after w.other.mid.coap t.coap (subst (SameTables course.after) (sym course.coap) (values_same _ course.after))
+    same_then course.after w.other.mid.coap t.coap (subst (SameTables course.after) (sym course.coap) (values_same (targets_in (emitted_by site e.event.what e.bytes m w.other.first w.other.mid w.other.one)) course.after))
     (same_then w.other.mid.coap ends.between t.coap (each_same w.other.mid.moment _ w.other.mid.coap ends.between ends.sends) (next_same w.other.mid.moment None ends.between t.coap ends.last)) in
     subst (λ (l : List Body). length l ≤ most_bodies) (sym same.bodies)
     (by e.event.what e.bytes m.moment _ m.coap course.after (subst (λ (c : Server). length c.bodies ≤ most_bodies) (sym (ap (λ (y : State). y.coap) w.one.next)) few) course.hearing)

@@ -1,10 +1,8 @@
 -- Observers converge (RFC 7641, section 1.3): what was sent last to an observer says the last value of its target, or a
 -- notification to its endpoint is on its way.
-use Rattle.std.specs.Prelude.{◌≡◌, ◌⊎◌, ◌==◌, ◌&&◌, ◌||◌, ◌≤◌, ℕ, Bool, true, false, List, [], ◌∷◌, ◌++◌, map, take, All, Contains, Option, Some, None, unwrap_or, if◌then◌else◌}
-use Rattle.std.specs.Str.{bytes_eq}
+use Rattle.std.specs.Prelude.{◌≡◌, ◌==◌, ℕ, true, false, List, [], ◌∷◌, ◌++◌, map, take, All, Contains, Option, Some, None, unwrap_or}
 use mathlib.Core.Logic.{inl, inr}
 use Rattle.coap_msg.specs.declared.endpoint.Endpoint.{Endpoint}
-use Rattle.coap_msg.specs.Endpoints.{is_same_endpoint}
 use Rattle.coap_msg.specs.Grammar.{spelling}
 use Rattle.thing_ops.specs.declared.outcome.Outcome.{Outcome}
 use Rattle.thing_state.specs.State.{State as ThingState, Emission, LastValue, last_of}
@@ -13,7 +11,7 @@ use Rattle.coap_observe.specs.declared.notice.Registered.{Registered}
 use Rattle.coap_observe.specs.declared.notice.Registered.TheVariants.{New, Replaced, Full}
 use Rattle.coap_observe.specs.declared.notice.Notice.{Notice}
 use Rattle.coap_observe.specs.Sending.{Sent}
-use Rattle.coap_observe.specs.Watching.{Watching, is_due}
+use Rattle.coap_observe.specs.Watching.{Watching, is_pair, is_due}
 use Rattle.coap_observe.specs.Laws.{is_for}
 use Rattle.coap_bind.specs.declared.observing.Effect.{Effect}
 use Rattle.coap_bind.specs.declared.pending.PendingReply.{PendingReply}
@@ -113,7 +111,7 @@ Tells w last (notifies n text) =
 
 -- a deed tells this observer nothing, and isn't an emission of its target
 abbrev pub IsNoneOf : Observer → Deed → Type 0
-IsNoneOf w (registers from token target o bytes) = (is_same_endpoint w.from from && bytes_eq w.token token) ≡ false
+IsNoneOf w (registers from token target o bytes) = is_pair from token w ≡ false
 IsNoneOf w (emits e) = (w.target == e.target) ≡ false
 IsNoneOf w (notifies n text) = is_for w.from w.token n ≡ false
 

@@ -140,7 +140,7 @@ all_both : {X : Type 0} (P Q : X → Type 0) (xs : List X) → All P xs → All 
 all_both P Q [] p q = All-nil (λ x. P x × Q x)
 all_both P Q (x ∷ xs) p q = All-cons (λ x. P x × Q x) x xs (All-head P x xs p, All-head Q x xs q) (all_both P Q xs (All-tail P x xs p) (All-tail Q x xs q))
 
-none_passes : {X : Type 0} (p : X → Bool) (xs : List X) → find p xs ≡ None → All (λ x. p x ≡ false) xs
+pub none_passes : {X : Type 0} (p : X → Bool) (xs : List X) → find p xs ≡ None → All (λ x. p x ≡ false) xs
 none_passes p [] none = All-nil (λ x. p x ≡ false)
 none_passes {X} p (x ∷ xs) none = by (p x) refl none (λ e. none_passes p xs e)
   where

@@ -13,7 +13,7 @@ use Rattle.coap_observe.specs.declared.notice.Notice.{Notice}
 use Rattle.coap_observe.specs.declared.notice.Registered.{Registered}
 use Rattle.coap_observe.specs.declared.notice.Registered.TheVariants.{New, Replaced, Full}
 use Rattle.coap_observe.specs.Sending.{Sent}
-use Rattle.coap_observe.specs.Watching.{Watching, is_busy, is_due, is_sendable, is_pair, where_so, marked, is_of_target, next_sequence, Sends, nothing, sequence_of}
+use Rattle.coap_observe.specs.Watching.{Watching, is_busy, is_due, is_sendable, newcomer, Sends, nothing}
 use Rattle.coap_observe.specs.Laws.{Comes, begins, goes_on, registers as goes_registers, cancels as goes_cancels, emits as goes_emits, acknowledges as goes_acknowledges, rejects as goes_rejects, sends as goes_sends}
 use Rattle.coap_observe.proofs.CallLaws.{one_pair}
 use Rattle.thing_ops.specs.declared.outcome.Outcome.{Outcome}
@@ -25,7 +25,7 @@ use Rattle.coap_bind.specs.declared.observing.Effect.TheVariants as effect
 use Rattle.coap_bind.specs.declared.pending.PendingReply.{PendingReply}
 use Rattle.coap_bind.specs.declared.server.Server.{Server}
 use Rattle.coap_bind.specs.Blocks.{bodies_after, answer_reply}
-use Rattle.coap_bind.specs.Observing.{may_notify, registering, effect_of, Watches, leaves, cancels, registers as watches_registers}
+use Rattle.coap_bind.specs.Observing.{may_notify, is_memory, registering, effect_of, Watches, leaves, cancels, registers as watches_registers}
 use Rattle.coap_bind.specs.Writing.{head_in, observed, coap_reply}
 use Rattle.coap_msg.specs.Grammar.{spelling}
 use Rattle.coap_bind.specs.Server.{with_bodies, with_observers, with_emitted, SendsNext, Answers, asked}
@@ -76,7 +76,7 @@ says_value observing.Registers o t n is = by (may_notify o) is
     by : (b : Bool) → effect.Registers n ≡ cond b (registering t) effect.Nothing → b ≡ true
     by true e = refl
     by false e = absurd (let f : effect.Registers n ≡ effect.Nothing = e in cc)
-says_value observing.Deregisters o t n is = by _ is
+says_value observing.Deregisters o t n is = by (is_memory o) is
   where
     by : (b : Bool) → effect.Registers n ≡ cond b effect.Nothing effect.Cancels → may_notify o ≡ true
     by true e = absurd (let f : effect.Registers n ≡ effect.Nothing = e in cc)
@@ -90,7 +90,7 @@ watched_fine does from token old observe new o bytes last deeds (cancels is none
 watched_fine does from token old observe new o bytes last deeds (watches_registers target (New n) is at says) response f = record {
   comes = goes_on old new f.comes (goes_registers from token target (New n) refl at);
   told_last = subst (λ (w : Watching). AreFine last (deeds ++ registers from token target o bytes ∷ []) w.list) (sym at.3)
-      (registered_new from token target o bytes last deeds old.list at.0 (response target is _ refl (says ∙ ap Some at.2)) f.told_last);
+      (registered_new from token target o bytes last deeds old.list at.0 (response target is (newcomer from token target) refl (says ∙ ap Some at.2)) f.told_last);
 }
 watched_fine does from token old observe new o bytes last deeds (watches_registers target (Replaced n) is at says) response f = record {
   comes = goes_on old new f.comes (goes_registers from token target (Replaced n) refl at);

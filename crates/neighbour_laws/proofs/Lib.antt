@@ -8,3 +8,4 @@ pub mod StreamLaws
 pub mod AskerLaws
 pub mod NeighbourLaws
 pub mod ToldLaws
+pub mod ConvergeLaws

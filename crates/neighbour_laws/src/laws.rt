@@ -1,6 +1,7 @@
 //! Laws on neighbours.
 
 ghost use Rattle.neighbour_laws.specs.Askers.{DatagramsGoToAskers};
+ghost use Rattle.neighbour_laws.specs.Converging.{ObserversConverge};
 ghost use Rattle.neighbour_laws.specs.Neighbours.{NeighboursDoNotMatter};
 
 /// Each datagram that a run sends goes to an endpoint from which the run took one before.
@@ -15,4 +16,12 @@ pub fn datagrams_go_to_askers()
 /// were kept and a further one was put.
 pub fn neighbours_do_not_matter()
     ensures { NeighboursDoNotMatter }
+{}
+
+/// At the end of each event of a run an observer that isn't marked was told the last value of its target, with the number
+/// that it has, and nothing since: by a notification, or by the response that registered it, since which its target had no
+/// new value. For one that is marked, an observer of its endpoint has a notification that isn't acknowledged and isn't
+/// late.
+pub fn observers_converge()
+    ensures { ObserversConverge }
 {}

@@ -6,8 +6,9 @@
 //! - Each datagram that is sent goes to an endpoint from which one came: `datagrams_go_to_askers`.
 //! - What comes from one connection or one endpoint leaves what is another's, but for what it emits and what the moment
 //!   makes due: `neighbours_do_not_matter`.
+//! - Each observer was told the last value, or an acknowledgement of its endpoint is awaited: `observers_converge`.
 #![tactic(auto)]
 
 mod laws;
 
-pub use laws::{datagrams_go_to_askers, neighbours_do_not_matter};
+pub use laws::{datagrams_go_to_askers, neighbours_do_not_matter, observers_converge};

@@ -249,7 +249,7 @@ observers_converge site exchanges epoch took seen s run =
       fine = record { comes = begins first.coap.observers refl; told_last = All-nil (IsFine first.thing.last []) };
       awaited = All-nil (λ (w : Observer). w.is_marked ≡ true → IsAwaited w first.moment first.coap.observers.list);
     }) in
-    converged s (deeds_of site took first s seen run) s.coap.observers.list a.fine.told_last a.awaited
+    converged s (deeds_of site took first seen s run) s.coap.observers.list a.fine.told_last a.awaited
   where
     converged : (s : State) (deeds : List Deed) (ws : List Observer) → AreFine s.thing.last deeds ws → All (λ (w : Observer). w.is_marked ≡ true → IsAwaited w s.moment s.coap.observers.list) ws → All (HasConverged s deeds) ws
     converged s deeds [] fine awaited = All-nil (HasConverged s deeds)

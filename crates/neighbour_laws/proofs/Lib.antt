@@ -9,3 +9,4 @@ pub mod AskerLaws
 pub mod NeighbourLaws
 pub mod ToldLaws
 pub mod ConvergeLaws
+pub mod DeedLaws

@@ -5,7 +5,7 @@ use mathlib.Core.Logic.{inl, inr}
 use Rattle.coap_msg.specs.declared.endpoint.Endpoint.{Endpoint}
 use Rattle.coap_msg.specs.Grammar.{spelling}
 use Rattle.thing_ops.specs.declared.outcome.Outcome.{Outcome}
-use Rattle.thing_state.specs.State.{State as ThingState, Emission, LastValue, last_of}
+use Rattle.thing_state.specs.State.{State as ThingState, Emission, LastValue, last_of, last_after}
 use Rattle.coap_observe.specs.declared.observer.Observer.{Observer}
 use Rattle.coap_observe.specs.declared.notice.Registered.{Registered}
 use Rattle.coap_observe.specs.declared.notice.Registered.TheVariants.{New, Replaced, Full}
@@ -19,14 +19,14 @@ use Rattle.coap_bind.specs.declared.server.Server.{Server}
 use Rattle.coap_bind.specs.declared.blocks.BlockUse.{BlockUse}
 use Rattle.coap_bind.specs.Blocks.{answer_reply}
 use Rattle.coap_bind.specs.Observing.{may_notify, Watches, leaves, cancels, registers as registers_at}
-use Rattle.coap_bind.specs.Writing.{ReplyHead, observed, coap_reply}
+use Rattle.coap_bind.specs.Writing.{ReplyHead, observed, coap_reply, notification}
 use Rattle.coap_bind.specs.Server.{Heard, ignored, answered_at_once, asked, Answers}
 use Rattle.servient_outside.specs.declared.net.What.{What}
 use Rattle.servient_outside.specs.declared.net.What.TheVariants as what
 use Rattle.servient_outside.specs.declared.net.EventWithBytes.{EventWithBytes}
 use Rattle.servient_trace.specs.Trace.{Sighting}
 use Rattle.servient_core.specs.Machine.{Site, State, start, AnswersDatagram, HearsDatagram, Follows, EventAndStep, Run}
-use Rattle.servient_ends.specs.Ends.{emitted_by, notifications_in}
+use Rattle.servient_ends.specs.Ends.{emitted_by, notifications_in, datagrams_in}
 
 -- ---- what a run does about its observers
 
@@ -144,3 +144,27 @@ abbrev pub ObserversConverge : Type 0
 ObserversConverge =
     (site : Site) (exchanges : ℕ) (epoch : Option ℕ) (took : List EventWithBytes) (seen : List Sighting) (s : State) (run : Run site took (start site exchanges epoch) seen s)
     → All (HasConverged s (deeds_of site took (start site exchanges epoch) seen s run)) s.coap.observers.list
+
+-- ---- deeds are seen
+
+abbrev pub emissions_in : List Deed → List Emission
+emissions_in [] = []
+emissions_in (registers from token target o bytes ∷ deeds) = emissions_in deeds
+emissions_in (emits e ∷ deeds) = e ∷ emissions_in deeds
+emissions_in (notifies n text ∷ deeds) = emissions_in deeds
+
+-- a deed that tells something is one of these datagrams
+abbrev pub IsSent : List (Endpoint × List ℕ) → Deed → Type 0
+IsSent sent (registers from token target o bytes) = Contains sent (from, bytes)
+IsSent sent (emits e) = Unit {0}
+IsSent sent (notifies n text) = Contains sent (n.to, spelling (notification n text))
+
+-- "Deeds are seen": what a run told its observers are datagrams of its trace, and what it emitted are the last values.
+pub record AreSeen (last after : List LastValue) (seen : List Sighting) (deeds : List Deed) : Type 0 where
+  pub sent : All (IsSent (datagrams_in seen)) deeds
+  pub emitted : after ≡ last_after (emissions_in deeds) last
+
+abbrev pub DeedsAreSeen : Type 0
+DeedsAreSeen =
+    (site : Site) (exchanges : ℕ) (epoch : Option ℕ) (took : List EventWithBytes) (seen : List Sighting) (s : State) (run : Run site took (start site exchanges epoch) seen s)
+    → AreSeen (start site exchanges epoch).thing.last s.thing.last seen (deeds_of site took (start site exchanges epoch) seen s run)

@@ -1,7 +1,7 @@
 //! Laws on neighbours.
 
 ghost use Rattle.neighbour_laws.specs.Askers.{DatagramsGoToAskers};
-ghost use Rattle.neighbour_laws.specs.Converging.{ObserversConverge};
+ghost use Rattle.neighbour_laws.specs.Converging.{DeedsAreSeen, ObserversConverge};
 ghost use Rattle.neighbour_laws.specs.Neighbours.{NeighboursDoNotMatter};
 
 /// Each datagram that a run sends goes to an endpoint from which the run took one before.
@@ -24,4 +24,10 @@ pub fn neighbours_do_not_matter()
 /// late.
 pub fn observers_converge()
     ensures { ObserversConverge }
+{}
+
+/// What a run is said to have told its observers are datagrams of its trace, and what it is said to have emitted gives the
+/// last values of the Things.
+pub fn deeds_are_seen()
+    ensures { DeedsAreSeen }
 {}

@@ -7,8 +7,11 @@
 //! - What comes from one connection or one endpoint leaves what is another's, but for what it emits and what the moment
 //!   makes due: `neighbours_do_not_matter`.
 //! - Each observer was told the last value, or an acknowledgement of its endpoint is awaited: `observers_converge`.
+//!   The deeds of a run of which it speaks are seen in its trace and in the last values: `deeds_are_seen`.
 #![tactic(auto)]
 
 mod laws;
 
-pub use laws::{datagrams_go_to_askers, neighbours_do_not_matter, observers_converge};
+pub use laws::{
+    datagrams_go_to_askers, deeds_are_seen, neighbours_do_not_matter, observers_converge,
+};

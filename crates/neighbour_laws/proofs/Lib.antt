@@ -10,3 +10,4 @@ pub mod NeighbourLaws
 pub mod ToldLaws
 pub mod ConvergeLaws
 pub mod DeedLaws
+pub mod RestLaws

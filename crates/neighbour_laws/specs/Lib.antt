@@ -1,3 +1,4 @@
 pub mod Askers
 pub mod Neighbours
 pub mod Converging
+pub mod Resting

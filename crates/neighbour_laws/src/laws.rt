@@ -3,6 +3,7 @@
 ghost use Rattle.neighbour_laws.specs.Askers.{DatagramsGoToAskers};
 ghost use Rattle.neighbour_laws.specs.Converging.{DeedsAreSeen, ObserversConverge};
 ghost use Rattle.neighbour_laws.specs.Neighbours.{NeighboursDoNotMatter};
+ghost use Rattle.neighbour_laws.specs.Resting.{ReadsMoveNobody};
 
 /// Each datagram that a run sends goes to an endpoint from which the run took one before.
 pub fn datagrams_go_to_askers()
@@ -30,4 +31,11 @@ pub fn observers_converge()
 /// last values of the Things.
 pub fn deeds_are_seen()
     ensures { DeedsAreSeen }
+{}
+
+/// A Confirmable request without Observe that emits nothing, and comes directly after another event and at its moment,
+/// leaves the connections with their waits, the observers, the next message ID and the directory as they were, and nothing
+/// is done to the network but that it is answered.
+pub fn reads_move_nobody()
+    ensures { ReadsMoveNobody }
 {}

@@ -243,8 +243,8 @@ plain_ask from bytes now ask r s t plain (admitted m slot u met reads) =
     read_plain from now m slot ask r u t (ap request_type p.0) (unobserved m.code _ p.2) reads
 
 watches_same : (does : Effect) (from : Endpoint) (token : List ℕ) (old : Watching) (o : Option ℕ) (new : Watching) → does ≡ effect.Nothing → Watches does from token old o new → new ≡ old
-watches_same does from token old o new none (leaves is no stays) = stays
-watches_same does from token old o new none (cancels is no gone) = absurd (let e : effect.Nothing ≡ effect.Cancels = sym none ∙ is in cc)
+watches_same does from token old o new none (leaves is none_said stays) = stays
+watches_same does from token old o new none (cancels is none_said gone) = absurd (let e : effect.Nothing ≡ effect.Cancels = sym none ∙ is in cc)
 watches_same does from token old o new none (registers target r is at says) = absurd (let e : effect.Nothing ≡ effect.Registers target = sym none ∙ is in cc)
 
 answers_same : (r : PendingReply) (o : Outcome) (target : Option ℕ) (reply : List ℕ) (u t : Server) → IsPlainAsk r → Answers r o target reply u t → Same u t

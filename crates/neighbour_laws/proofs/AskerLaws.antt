@@ -2,14 +2,13 @@
 use Rattle.std.proofs.Common.{◌≡◌, ◌∙◌, ℕ, Bool, true, false, cond, List, [], ◌∷◌, ◌++◌, map, max, find, ◌⊎◌, inl, inr, refl, sym, ap, subst, arith, append_assoc}
 use Rattle.std.specs.Prelude.{Option, Some, None, All, Contains}
 use Rattle.std.proofs.lemmas.List.{append-nil}
-use Rattle.std.proofs.lemmas.List.Elements.{All-nil, All-cons, All-head, All-tail, All-append, All-push, All-map, All-filter, All-weaker, All-contains, Contains-append_left, Contains-append_right, Contains-append_cases}
+use Rattle.std.proofs.lemmas.List.Elements.{All-nil, All-cons, All-head, All-tail, All-push, All-map, All-filter, All-weaker, All-contains, Contains-append_left, Contains-append_right, Contains-append_cases}
 use Rattle.neighbour_laws.proofs.Lists.{found_all}
-use Rattle.servient_base.specs.Moves.{Each}
 use Rattle.coap_msg.specs.declared.endpoint.Endpoint.{Endpoint}
 use Rattle.coap_observe.specs.declared.observer.Observer.{Observer}
 use Rattle.coap_observe.specs.declared.notice.Notice.{Notice}
 use Rattle.coap_observe.specs.declared.notice.Registered.TheVariants.{New, Replaced, Full}
-use Rattle.coap_observe.specs.Watching.{Watching, where_so, with_first, is_due, is_sendable, resent, renewed, notified, is_of_target, is_sent_as, is_pair, marked, acknowledged, replaced, newcomer, is_from, GivesUp, nobody, endpoint, IsNotification, Sends, same, newer, first, nothing, Notifies}
+use Rattle.coap_observe.specs.Watching.{Watching, where_so, with_first, is_due, is_sendable, resent, renewed, notified, is_of_target, is_sent_as, is_pair, marked, acknowledged, replaced, newcomer, GivesUp, nobody, endpoint, IsNotification, Sends, same, newer, first, nothing}
 use Rattle.coap_bind.specs.declared.observing.Effect.{Effect}
 use Rattle.coap_bind.specs.declared.server.Server.{Server}
 use Rattle.coap_bind.specs.Observing.{Watches, leaves, cancels, registers}
@@ -19,17 +18,16 @@ use Rattle.thing_state.specs.State.{State as ThingState, Emission}
 use Rattle.servient_outside.specs.declared.net.What.{What}
 use Rattle.servient_outside.specs.declared.net.What.TheVariants as what
 use Rattle.servient_outside.specs.declared.net.EventWithBytes.{EventWithBytes}
-use Rattle.servient_outside.specs.declared.net.Act.{Act}
 use Rattle.servient_outside.specs.declared.net.Act.TheVariants as act
-use Rattle.servient_outside.specs.Network.{heard, did, broke}
-use Rattle.servient_trace.specs.Trace.{Sighting, at_network, at_handler}
-use Rattle.servient_core.specs.Machine.{Site, State, start, notification_bytes, Step, EventAndStep, Run}
-use Rattle.servient_ends.specs.Ends.{datagrams_in, datagrams_at, emitted_by, notifications_in, event_at, back_of}
+use Rattle.servient_outside.specs.Network.{heard, did}
+use Rattle.servient_trace.specs.Trace.{Sighting, at_network}
+use Rattle.servient_core.specs.Machine.{Site, State, start, notification_bytes, EventAndStep, Run}
+use Rattle.servient_ends.specs.Ends.{datagrams_in, emitted_by, notifications_in, event_at, back_of}
 use Rattle.servient_ends.proofs.SeenLaws.{seen_both, back_to, noticed, hearing_sends, doing_sends}
 use Rattle.servient_ends.proofs.StepParts.{IsNoDatagram, with_targets, targets_in, other_happened}
 use Rattle.neighbour_laws.specs.Askers.{HasSpoken, DatagramsGoToAskers}
 use Rattle.neighbour_laws.specs.Converging.{Deed}
-use Rattle.neighbour_laws.proofs.EventParts.{Hearing, is_passed, is_heard, is_answered, Course, follows_course, happened_course, SendsEach, Ends, event_ends}
+use Rattle.neighbour_laws.proofs.EventParts.{Hearing, is_passed, is_heard, is_answered, Course, follows_course, happened_course, SendsEach, event_ends}
 use Rattle.neighbour_laws.proofs.HeardParts.{Told, leaves_all, acknowledges, rejects, cancels_one, hears_told, asked_from, replied_observers, next_observers}
 
 -- ---- what stays of observers

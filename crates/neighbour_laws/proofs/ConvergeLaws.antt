@@ -1,8 +1,7 @@
 -- Observers converge: event by event, over whole runs.
-use Rattle.std.proofs.Common.{◌≡◌, ◌∙◌, ◌≤◌, ℕ, suc, Bool, true, false, not, cond, List, [], ◌∷◌, ◌++◌, map, find, max, length, refl, sym, ap, subst, arith, append_assoc}
+use Rattle.std.proofs.Common.{◌≡◌, ◌∙◌, ℕ, suc, Bool, true, false, not, cond, List, [], ◌∷◌, ◌++◌, map, find, max, refl, sym, ap, subst, arith, append_assoc}
 use Rattle.std.specs.Prelude.{Option, Some, None, ◌&&◌, ◌||◌, All, Contains, is_some}
 use Rattle.std.specs.List.{list_any}
-use Rattle.std.proofs.lemmas.Option.{same_Some}
 use Rattle.std.proofs.lemmas.List.{append-nil}
 use Rattle.std.proofs.lemmas.List.Elements.{All-nil, All-cons, All-head, All-tail, All-weaker, All-contains}
 use Rattle.coap_msg.specs.declared.endpoint.Endpoint.{Endpoint}
@@ -10,7 +9,6 @@ use Rattle.coap_msg.specs.Endpoints.{is_same_endpoint}
 use Rattle.coap_msg.proofs.SameEndpoints.{both, same_endpoint}
 use Rattle.coap_observe.specs.declared.observer.Observer.{Observer}
 use Rattle.coap_observe.specs.declared.notice.Notice.{Notice}
-use Rattle.coap_observe.specs.declared.notice.Registered.{Registered}
 use Rattle.coap_observe.specs.declared.notice.Registered.TheVariants.{New, Replaced, Full}
 use Rattle.coap_observe.specs.Sending.{Sent}
 use Rattle.coap_observe.specs.Watching.{Watching, is_busy, is_due, is_sendable, newcomer, Sends, nothing}
@@ -37,8 +35,8 @@ use Rattle.servient_core.specs.declared.capacity.TheConstants.{MOST_WATCHERS}
 use Rattle.servient_core.specs.Machine.{Site, State, start, EventAndStep, Run}
 use Rattle.servient_ends.specs.Ends.{emitted_by, notifications_in}
 use Rattle.servient_ends.proofs.StepParts.{with_targets, targets_in}
-use Rattle.neighbour_laws.specs.Converging.{Deed, registers, emits, notifies, registered_as, registered_by, registered_in, registrations_by, told, deeds_of_event, deeds_of, IsResponse, IsToldTheLast, IsAwaited, HasConverged, ObserversConverge}
-use Rattle.neighbour_laws.proofs.EventParts.{Hearing, is_passed, is_heard, is_answered, HearingOf, Course, follows_course, SendsEach, Ends, event_ends}
+use Rattle.neighbour_laws.specs.Converging.{Deed, registers, emits, registered_by, registered_in, registrations_by, told, deeds_of_event, deeds_of, IsResponse, IsAwaited, HasConverged, ObserversConverge}
+use Rattle.neighbour_laws.proofs.EventParts.{Hearing, is_passed, is_heard, is_answered, HearingOf, follows_course, SendsEach, event_ends}
 use Rattle.neighbour_laws.proofs.HeardParts.{Told, leaves_all, acknowledges, rejects, cancels_one, hears_told, replied_observers, next_observers}
 use Rattle.neighbour_laws.proofs.ToldLaws.{AreFine, IsFine, OnePair, heard_fine, registered_anew, registered_new, emitted_fine, sent_deeds, notified_fine, none_passes}
 use Rattle.neighbour_laws.proofs.Lists.{never}

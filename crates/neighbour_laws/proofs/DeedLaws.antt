@@ -10,9 +10,7 @@ use Rattle.coap_observe.specs.declared.notice.Registered.TheVariants.{New, Repla
 use Rattle.coap_observe.specs.Watching.{Watching}
 use Rattle.thing_ops.specs.declared.outcome.Outcome.{Outcome}
 use Rattle.thing_state.specs.State.{State as ThingState, Emission, LastValue, last_after, renewed}
-use Rattle.coap_opts.specs.Reading.{AskSeen}
 use Rattle.coap_bind.specs.declared.observing.Effect.{Effect}
-use Rattle.coap_bind.specs.declared.pending.PendingReply.{PendingReply}
 use Rattle.coap_bind.specs.declared.server.Server.{Server}
 use Rattle.coap_bind.specs.Observing.{Watches, leaves, cancels, registers as watches_registers, effect_of}
 use Rattle.coap_bind.specs.Server.{Heard, ignored, answered_at_once, asked, Hears}
@@ -20,7 +18,7 @@ use Rattle.servient_outside.specs.declared.net.What.{What}
 use Rattle.servient_outside.specs.declared.net.What.TheVariants as what
 use Rattle.servient_outside.specs.declared.net.EventWithBytes.{EventWithBytes}
 use Rattle.servient_trace.specs.Trace.{Sighting}
-use Rattle.servient_core.specs.Machine.{Site, State, start, AnswersDatagram, HearsDatagram, Follows, EventAndStep, Run}
+use Rattle.servient_core.specs.Machine.{Site, State, start, AnswersDatagram, HearsDatagram, EventAndStep, Run}
 use Rattle.servient_ends.specs.Ends.{emitted_by, notifications_in, datagrams_in, event_at, sent_on, back_of}
 use Rattle.servient_ends.proofs.SeenLaws.{seen_both, back_to, noticed, hearing_sends, doing_sends}
 use Rattle.servient_ends.proofs.StepParts.{IsNoDatagram}

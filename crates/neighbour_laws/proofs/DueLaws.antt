@@ -1,8 +1,7 @@
 -- The observers of one endpoint, once a datagram of another came and the moment did to all what is due.
-use Rattle.std.proofs.Common.{◌≡◌, ◌∙◌, ℕ, Bool, true, false, not, cond, List, [], ◌∷◌, ◌++◌, map, filter, find, refl, sym, ap, subst}
+use Rattle.std.proofs.Common.{◌≡◌, ◌∙◌, ℕ, Bool, true, false, not, cond, List, [], ◌∷◌, ◌++◌, map, find, refl, sym, ap, subst}
 use Rattle.std.specs.Prelude.{Option, Some, None, ◌==◌, ◌&&◌, All, option_and_then, is_some}
 use Rattle.std.specs.Str.{bytes_eq}
-use Rattle.std.specs.List.{list_any}
 use Rattle.std.proofs.lemmas.List.{append-nil}
 use Rattle.std.proofs.lemmas.List.Elements.{All-weaker, filter_passes, filter-append}
 use Rattle.std.proofs.lemmas.Option.{same_Some}
@@ -13,7 +12,7 @@ use Rattle.coap_observe.specs.declared.observer.Observer.{Observer}
 use Rattle.coap_observe.specs.declared.notice.Notice.{Notice}
 use Rattle.coap_observe.specs.declared.notice.Registered.TheVariants.{New, Replaced, Full}
 use Rattle.coap_observe.specs.Sending.{Sent}
-use Rattle.coap_observe.specs.Watching.{Watching, where_so, with_first, is_due, is_sendable, is_busy, is_named, resent, renewed, notified, is_of_target, is_sent_as, is_pair, marked, acknowledged, replaced, newcomer, is_from, is_given_up, given_up_endpoint, hopeless, without, GivesUp, nobody, endpoint, IsNotification, Sends, same, newer, first, nothing, Notifies}
+use Rattle.coap_observe.specs.Watching.{Watching, where_so, is_due, is_sendable, is_busy, is_named, resent, renewed, notified, is_of_target, is_sent_as, is_pair, marked, acknowledged, replaced, newcomer, is_from, is_given_up, given_up_endpoint, hopeless, without, GivesUp, nobody, endpoint, Sends, same, newer, first, nothing}
 use Rattle.coap_observe.proofs.Found.{found_filter}
 use Rattle.coap_bind.specs.declared.observing.Effect.{Effect}
 use Rattle.coap_bind.specs.declared.server.Server.{Server}

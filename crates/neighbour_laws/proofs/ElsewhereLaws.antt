@@ -1,5 +1,5 @@
 -- The exchanges, the bodies and the parts of one endpoint, once a datagram of another came.
-use Rattle.std.proofs.Common.{◌≡◌, ◌∙◌, ◌+◌, ◌-◌, ◌≤◌, ◌<◌, ℕ, zero, suc, Bool, true, false, not, cond, List, [], ◌∷◌, ◌++◌, map, filter, find, length, drop, get_or, refl, sym, ap, subst, arith, length-append, length-drop}
+use Rattle.std.proofs.Common.{◌≡◌, ◌∙◌, ◌+◌, ◌-◌, ◌≤◌, ◌<◌, ℕ, zero, suc, Bool, true, false, not, cond, List, [], ◌∷◌, ◌++◌, filter, length, drop, get_or, refl, sym, ap, subst, arith, length-append, length-drop}
 use Rattle.std.proofs.Math.Logic.{⊎_elim}
 use Rattle.std.proofs.lemmas.Bool.{cases_eq}
 use Rattle.std.specs.Prelude.{Option, Some, None, ◌==◌, ◌&&◌, nat_lt, slice_set}
@@ -16,14 +16,14 @@ use Rattle.coap_msg.proofs.SameEndpoints.{both, same_endpoint}
 use Rattle.coap_exchange.specs.Admission.{lives}
 use Rattle.coap_exchange.specs.Table.{Exchange, Table, at_moment}
 use Rattle.coap_blocks.specs.Paths.{is_same_path, lives as body_lives}
-use Rattle.coap_blocks.specs.Bodies.{Body, most_bodies, is_body_of, last, without_place, other_bodies, with_body}
+use Rattle.coap_blocks.specs.Bodies.{Body, most_bodies, is_body_of, last, without_place, other_bodies}
 use Rattle.coap_blocks.specs.Parts.{Part, Arrival, Origin, living, longest_request, most_parts, is_bad, is_part_of, place_of, answer_at, extended, joined_to, new_part, part_at, joined_at, joined, begun, other_parts, after_block}
 use Rattle.coap_blocks.specs.declared.added.Added.{Added}
 use Rattle.coap_blocks.specs.declared.added.Added.TheVariants as answer
-use Rattle.coap_blocks.proofs.Lists.{rest_of, place_removed}
+use Rattle.coap_blocks.proofs.Lists.{place_removed}
 use Rattle.neighbour_laws.specs.Neighbours.{exchanges_of, bodies_of, parts_of, KeepsBodies, all_stay, oldest_goes}
-use Rattle.neighbour_laws.proofs.HearingLaws.{Admitted, Meeting, meets_none, meets_some, has_admitted, Puts, puts_none, puts_one, Joins, joins_none, joins_one, takes_whole}
-use Rattle.neighbour_laws.proofs.Lists.{never, FailsAt, filter_apart, filter_commutes, filter_removed, filter_set, set_fails, filter_rest}
+use Rattle.neighbour_laws.proofs.HearingLaws.{Meeting, meets_none, meets_some, has_admitted, Puts, puts_none, puts_one, Joins, joins_none, joins_one, takes_whole}
+use Rattle.neighbour_laws.proofs.Lists.{FailsAt, filter_apart, filter_commutes, filter_removed, filter_set, set_fails, filter_rest}
 
 -- ---- one that isn't of the part
 

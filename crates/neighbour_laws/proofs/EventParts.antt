@@ -1,22 +1,21 @@
 -- One event, as the CoAP server and the last values of the Things see it: what it heard, what was emitted, and what its
 -- end sent.
-use Rattle.std.proofs.Common.{◌≡◌, ◌∙◌, ℕ, List, [], ◌∷◌, ◌++◌, map, max, inl, inr, refl, sym, ap, subst}
+use Rattle.std.proofs.Common.{◌≡◌, ◌∙◌, ℕ, List, [], ◌∷◌, inl, inr, refl, sym, ap, subst}
 use Rattle.std.specs.Prelude.{Option, Some, None}
 use Rattle.servient_base.specs.Moves.{Each, Until, is_done, goes_on}
 use Rattle.coap_msg.specs.declared.endpoint.Endpoint.{Endpoint}
 use Rattle.thing_ops.specs.declared.outcome.Outcome.{Outcome}
-use Rattle.thing_state.specs.State.{State as ThingState, Emission, last_of, last_after, LastValue}
+use Rattle.thing_state.specs.State.{State as ThingState, Emission, last_of, last_after}
 use Rattle.coap_observe.specs.declared.notice.Notice.{Notice}
 use Rattle.coap_opts.specs.Reading.{AskSeen}
 use Rattle.coap_bind.specs.declared.pending.PendingReply.{PendingReply}
 use Rattle.coap_bind.specs.declared.server.Server.{Server}
 use Rattle.coap_bind.specs.Server.{Heard, ignored, answered_at_once, asked, Hears, Answers, with_emitted, SendsNext}
-use Rattle.http_bind.specs.Streams.{Streams, oldest_for, oldest_late, NoneIdle}
+use Rattle.http_bind.specs.Streams.{oldest_for}
 use Rattle.servient_outside.specs.declared.net.What.{What}
 use Rattle.servient_outside.specs.declared.net.What.TheVariants as what
-use Rattle.servient_outside.specs.declared.net.EventWithBytes.{EventWithBytes}
 use Rattle.servient_trace.specs.Trace.{Sighting}
-use Rattle.servient_core.specs.Machine.{Site, State, RepliesToWait, AnswersWait, Delivers, AnswersDatagram, HearsDatagram, SendsNotification, NothingIsDue, EndsEvent, Follows, Step, EventAndStep}
+use Rattle.servient_core.specs.Machine.{Site, State, RepliesToWait, AnswersWait, Delivers, AnswersDatagram, HearsDatagram, SendsNotification, NothingIsDue, EndsEvent, Follows}
 use Rattle.servient_ends.specs.Ends.{along, emitted_on, emitted_by_datagram, emitted_by, notifications_in}
 use Rattle.servient_ends.proofs.ThingLaws.{acts_emit}
 use Rattle.servient_ends.proofs.StepParts.{Leaves, with_targets, targets_in, Happened, other_happened, late_leave, idle_leave}

@@ -1,5 +1,5 @@
 -- The effect of a datagram on the observers, and the endpoint to which its request is answered.
-use Rattle.std.proofs.Common.{◌≡◌, ◌∙◌, ℕ, Bool, true, false, cond, List, [], ◌∷◌, ◌++◌, map, refl, sym, ap, subst, inl, inr}
+use Rattle.std.proofs.Common.{◌≡◌, ◌∙◌, ℕ, Bool, true, false, cond, List, refl, sym, ap, subst}
 use Rattle.std.specs.Prelude.{Option, Some, None, ◌==◌}
 use Rattle.coap_msg.specs.declared.constants.TheConstants.{EMPTY}
 use Rattle.coap_msg.specs.declared.endpoint.Endpoint.{Endpoint}

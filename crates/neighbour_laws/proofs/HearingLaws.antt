@@ -23,8 +23,8 @@ use Rattle.coap_bind.specs.declared.blocks.BlockUse.TheVariants as blocks
 use Rattle.coap_bind.specs.declared.pending.PendingReply.{PendingReply}
 use Rattle.coap_bind.specs.declared.server.Server.{Server}
 use Rattle.coap_bind.specs.Blocks.{bodies_after, body_of, is_kept}
-use Rattle.coap_bind.specs.Links.{bodies_with_links, is_text_kept, links_content, size_asked}
-use Rattle.coap_bind.specs.Writing.{Reply, head_of}
+use Rattle.coap_bind.specs.Links.{is_text_kept, links_content, size_asked}
+use Rattle.coap_bind.specs.Writing.{Reply}
 use Rattle.coap_bind.specs.Server.{Heard, ignored, answered_at_once, asked, Hears, settled, admitted, malformed, no_request, duplicate, full, IsMet, Reads, replied, bad_option_ignored, gives_links, asks, asks_whole, IsAnsweredAtOnce, bad_option, bad_block, for_proxy, no_memory, later_block, joined, takes_no_other_verb, takes_no_body, Adds, block_arrival, with_id_used, with_kept, with_parts, with_bodies, with_observers, links_given, observing_in, with_whole_body, pending_of, pending_joined}
 use Rattle.neighbour_laws.specs.Converging.{Deed}
 use Rattle.neighbour_laws.proofs.EventParts.{Hearing, is_passed, is_heard, is_answered}

@@ -1,6 +1,6 @@
 -- Each event of a run leaves what is others'.
-use Rattle.std.proofs.Common.{◌≡◌, ◌∙◌, ◌≤◌, ℕ, Bool, true, false, List, [], ◌∷◌, ◌++◌, map, length, max, refl, sym, ap, subst, arith}
-use Rattle.std.specs.Prelude.{Option, Some, None, not, if◌then◌else◌}
+use Rattle.std.proofs.Common.{◌≡◌, ◌∙◌, ◌≤◌, ℕ, Bool, true, false, List, [], ◌∷◌, length, max, refl, sym, ap, subst, arith}
+use Rattle.std.specs.Prelude.{Option, Some, None, if◌then◌else◌}
 use Rattle.coap_msg.specs.declared.endpoint.Endpoint.{Endpoint}
 use Rattle.coap_msg.specs.Endpoints.{is_same_endpoint}
 use Rattle.coap_exchange.specs.Table.{Table, at_moment}
@@ -18,13 +18,13 @@ use Rattle.servient_outside.specs.declared.net.What.TheVariants as what
 use Rattle.servient_outside.specs.declared.net.EventWithBytes.{EventWithBytes}
 use Rattle.servient_trace.specs.Trace.{Sighting}
 use Rattle.servient_core.specs.Machine.{Site, State, start, EventAndStep, Run}
-use Rattle.servient_ends.specs.Ends.{emitted_by, notifications_in}
+use Rattle.servient_ends.specs.Ends.{emitted_by}
 use Rattle.servient_ends.proofs.StepParts.{with_targets, targets_in}
-use Rattle.neighbour_laws.specs.Converging.{Deed, registrations_by}
-use Rattle.neighbour_laws.specs.Neighbours.{connection_of, endpoint_of, is_other, is_elsewhere, is_answered, exchanges_of, observers_of, bodies_of, parts_of, with_new_values, DoesDue, KeepsBodies, all_stay, LeavesEndpoint, LeavesOthers, NeighboursDoNotMatter}
-use Rattle.neighbour_laws.proofs.EventParts.{Hearing, is_passed, is_heard, is_answered as is_answered_here, HearingOf, Course, follows_course, SendsEach, Ends, event_ends}
+use Rattle.neighbour_laws.specs.Converging.{Deed}
+use Rattle.neighbour_laws.specs.Neighbours.{connection_of, endpoint_of, is_elsewhere, exchanges_of, observers_of, bodies_of, parts_of, with_new_values, DoesDue, KeepsBodies, all_stay, LeavesEndpoint, LeavesOthers, NeighboursDoNotMatter}
+use Rattle.neighbour_laws.proofs.EventParts.{Hearing, is_passed, is_heard, is_answered as is_answered_here, HearingOf, follows_course, SendsEach, event_ends}
 use Rattle.neighbour_laws.proofs.HeardParts.{hears_told, asked_from, replied_observers}
-use Rattle.neighbour_laws.proofs.HearingLaws.{HeardAll, hearing_all}
+use Rattle.neighbour_laws.proofs.HearingLaws.{hearing_all}
 use Rattle.neighbour_laws.proofs.ElsewhereLaws.{exchanges_left, few_bodies, bodies_left, parts_left}
 use Rattle.neighbour_laws.proofs.DueLaws.{told_leaves, watches_leaves, values_of_part, due_of_part}
 use Rattle.neighbour_laws.proofs.StreamLaws.{Passed, Moved, follows_moved, ends_moved, moved_to_end}

@@ -1,13 +1,11 @@
 -- A machine at rest stays so when a read comes.
-use Rattle.std.proofs.Common.{◌≡◌, ◌∙◌, ℕ, Bool, true, false, cond, List, [], ◌∷◌, ◌++◌, map, find, max, inl, inr, refl, sym, ap, ap₂, subst, arith}
+use Rattle.std.proofs.Common.{◌≡◌, ◌∙◌, ℕ, Bool, true, false, cond, List, [], ◌∷◌, ◌++◌, map, find, max, inl, inr, refl, sym, ap, ap₂, subst}
 use Rattle.std.specs.Prelude.{Option, Some, None, ◌==◌, All, option_map, option_and_then}
 use Rattle.std.specs.List.{position, filter}
 use Rattle.std.proofs.lemmas.List.Elements.{All-nil, All-cons, All-append}
-use Rattle.std.proofs.lemmas.Option.{same_Some}
 use Rattle.servient_base.specs.Moves.{Each, Until, is_done, goes_on}
 use Rattle.coap_msg.specs.declared.endpoint.Endpoint.{Endpoint}
 use Rattle.coap_msg.specs.declared.constants.TheConstants.{GET}
-use Rattle.coap_msg.specs.declared.message.Type4.TheVariants.{Con}
 use Rattle.coap_msg.specs.declared.message.RequestType.{RequestType}
 use Rattle.coap_msg.specs.declared.message.RequestType.TheVariants.{Confirmable, NonConfirmable}
 use Rattle.coap_msg.specs.Grammar.{CoapMessage}
@@ -15,7 +13,7 @@ use Rattle.coap_msg.specs.Requests.{request_type}
 use Rattle.coap_msg.specs.Empty.{empty_reply, rejection_of}
 use Rattle.coap_observe.specs.declared.observer.Observer.{Observer}
 use Rattle.coap_observe.specs.declared.notice.Notice.{Notice}
-use Rattle.coap_observe.specs.Watching.{Watching, is_due, is_sendable, given_up_endpoint, hopeless, GivesUp, nobody, endpoint, Sends, same, newer, first, nothing, Notifies}
+use Rattle.coap_observe.specs.Watching.{Watching, is_due, is_sendable, given_up_endpoint, hopeless, GivesUp, nobody, endpoint, Sends, same, newer, first, nothing}
 use Rattle.coap_opts.specs.Reading.{AskSeen, asked as what_is_asked}
 use Rattle.coap_bind.specs.declared.observing.Observing.{Observing}
 use Rattle.coap_bind.specs.declared.observing.Observing.TheVariants as observing
@@ -31,16 +29,16 @@ use Rattle.thing_ops.specs.declared.outcome.Outcome.{Outcome}
 use Rattle.thing_handler.specs.Turns.{HandlerCall}
 use Rattle.thing_state.specs.State.{Emission}
 use Rattle.http_bind.specs.declared.waits.Wait.{Wait}
-use Rattle.http_bind.specs.Streams.{Streams, oldest_late, is_late, is_idle, NoneIdle, none_open}
+use Rattle.http_bind.specs.Streams.{Streams, oldest_late, is_late, is_idle, NoneIdle}
 use Rattle.servient_outside.specs.declared.net.What.{What}
 use Rattle.servient_outside.specs.declared.net.What.TheVariants as what
 use Rattle.servient_outside.specs.declared.net.EventWithBytes.{EventWithBytes}
 use Rattle.servient_trace.specs.Trace.{Sighting, at_handler}
-use Rattle.servient_core.specs.Machine.{Site, State, Move, start, AnswersDatagram, HearsDatagram, AnswersLateWait, ClosesIdle, SendsNotification, NothingIsDue, EndsEvent, Follows, EventAndStep, Run, Delivers}
+use Rattle.servient_core.specs.Machine.{Site, State, Move, start, AnswersDatagram, HearsDatagram, AnswersLateWait, ClosesIdle, SendsNotification, NothingIsDue, EndsEvent, Follows, Run, Delivers}
 use Rattle.servient_ends.specs.Ends.{emitted_on, emitted_by_datagram, emitted_by}
 use Rattle.servient_ends.proofs.StepParts.{targets_in}
 use Rattle.neighbour_laws.specs.Resting.{IsOf, IsPlain, MovesNobody, ReadsMoveNobody}
-use Rattle.neighbour_laws.proofs.EventParts.{Ends, event_ends}
+use Rattle.neighbour_laws.proofs.EventParts.{event_ends}
 use Rattle.neighbour_laws.proofs.HeardParts.{next_observers, same_pending, never_sent, never_repeated}
 use Rattle.neighbour_laws.proofs.Lists.{never, none_of_part}
 

@@ -1,7 +1,7 @@
 -- The connections of others, once one did something, targets had new values, and the moment made due what waited too long
 -- or is idle.
-use Rattle.std.proofs.Common.{◌≡◌, ◌∙◌, ◌<◌, ◌-◌, ℕ, zero, suc, Bool, true, false, not, cond, List, [], ◌∷◌, ◌++◌, map, filter, find, length, inl, inr, refl, sym, ap, subst, arith}
-use Rattle.std.specs.Prelude.{Option, Some, None, ◌==◌, ◌&&◌, ◌||◌, ◌≢◌, nat_le, Contains, slice_index_or, slice_set, option_map}
+use Rattle.std.proofs.Common.{◌≡◌, ◌∙◌, ◌<◌, ◌-◌, ℕ, zero, suc, Bool, true, false, not, cond, List, [], ◌∷◌, ◌++◌, filter, find, length, inl, inr, refl, sym, ap, subst, arith}
+use Rattle.std.specs.Prelude.{Option, Some, None, ◌==◌, ◌&&◌, ◌||◌, ◌≢◌, nat_le, Contains, slice_index_or, option_map}
 use Rattle.std.specs.List.{list_any, position}
 use Rattle.std.proofs.lemmas.Bool.Decides.{nat_tests}
 use Rattle.std.proofs.lemmas.Option.{same_Some}

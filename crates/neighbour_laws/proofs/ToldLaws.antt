@@ -1,5 +1,5 @@
 -- What the observers were told, call by call.
-use Rattle.std.proofs.Common.{◌≡◌, ◌∙◌, ◌≤◌, ◌+◌, ℕ, Bool, true, false, not, cond, List, [], ◌∷◌, ◌++◌, map, filter, find, length, take, refl, sym, ap, subst, arith, append_assoc}
+use Rattle.std.proofs.Common.{◌≡◌, ◌∙◌, ◌≤◌, ℕ, Bool, true, false, cond, List, [], ◌∷◌, ◌++◌, map, filter, find, length, refl, sym, ap, subst, arith, append_assoc}
 use Rattle.std.specs.Prelude.{Option, Some, None, ◌==◌, ◌&&◌, All, option_map, unwrap_or}
 use Rattle.std.specs.Str.{bytes_eq}
 use Rattle.std.proofs.lemmas.Bool.Decides.{nat_tests}
@@ -12,7 +12,7 @@ use Rattle.coap_msg.specs.Endpoints.{is_same_endpoint}
 use Rattle.coap_msg.proofs.SameEndpoints.{both, same_endpoint, itself}
 use Rattle.coap_observe.specs.declared.observer.Observer.{Observer}
 use Rattle.coap_observe.specs.declared.notice.Notice.{Notice}
-use Rattle.coap_observe.specs.Watching.{Watching, where_so, with_first, is_pair, is_of_target, is_sent_as, is_due, is_sendable, marked, acknowledged, replaced, newcomer, resent, renewed, notified, next_sequence, is_from, GivesUp, nobody, endpoint, IsNotification, Sends, same, newer, first, nothing, Notifies}
+use Rattle.coap_observe.specs.Watching.{Watching, where_so, with_first, is_pair, is_of_target, is_sent_as, is_due, is_sendable, marked, acknowledged, replaced, newcomer, resent, renewed, notified, next_sequence, GivesUp, nobody, endpoint, IsNotification, Sends, same, newer, first, nothing, Notifies}
 use Rattle.coap_observe.specs.Laws.{count, is_for}
 use Rattle.coap_observe.proofs.CallLaws.{fewer_after}
 use Rattle.thing_ops.specs.declared.outcome.Outcome.{Outcome}
@@ -236,12 +236,15 @@ others_apart x ws one =
     left false is most = absurd (never false is refl)
 
     each : (v : Observer) → is_pair x.from x.token v ≡ false → Apart x v × Apart v x
-    each v fails = (not_true (is_pair v.from v.token x) (λ is.
-        let pair = pair_is v.from v.token x is in
-        let back : is_pair x.from x.token v ≡ true =
-        subst (λ (e : Endpoint). (is_same_endpoint x.from e && bytes_eq x.token v.token) ≡ true) (sym pair.0)
-        (subst (λ (k : List ℕ). (is_same_endpoint x.from x.from && bytes_eq x.token k) ≡ true) (sym pair.1) own) in
-        absurd (never (is_pair x.from x.token v) back fails)), fails)
+    each v fails = (
+      not_true (is_pair v.from v.token x) (λ is.
+          let pair = pair_is v.from v.token x is in
+          let back : is_pair x.from x.token v ≡ true =
+          subst (λ (e : Endpoint). (is_same_endpoint x.from e && bytes_eq x.token v.token) ≡ true) (sym pair.0)
+          (subst (λ (k : List ℕ). (is_same_endpoint x.from x.from && bytes_eq x.token k) ≡ true) (sym pair.1) own) in
+          absurd (never (is_pair x.from x.token v) back fails)),
+      fails,
+    )
 
 fewer_pairs : (x : Observer) (ws : List Observer) → OnePair (x ∷ ws) → OnePair ws
 fewer_pairs x ws one = λ from token. by from token (is_pair from token x) (one from token)

@@ -1,11 +1,11 @@
 -- Observers converge (RFC 7641, section 1.3): what was sent last to an observer says the last value of its target, or a
 -- notification to its endpoint is on its way.
-use Rattle.std.specs.Prelude.{◌≡◌, ◌==◌, ℕ, true, false, List, [], ◌∷◌, ◌++◌, map, take, All, Contains, Option, Some, None, unwrap_or}
+use Rattle.std.specs.Prelude.{◌≡◌, ◌==◌, ℕ, true, false, List, [], ◌∷◌, ◌++◌, map, take, All, Contains, Option, Some, unwrap_or}
 use mathlib.Core.Logic.{inl, inr}
 use Rattle.coap_msg.specs.declared.endpoint.Endpoint.{Endpoint}
 use Rattle.coap_msg.specs.Grammar.{spelling}
 use Rattle.thing_ops.specs.declared.outcome.Outcome.{Outcome}
-use Rattle.thing_state.specs.State.{State as ThingState, Emission, LastValue, last_of, last_after}
+use Rattle.thing_state.specs.State.{Emission, LastValue, last_of, last_after}
 use Rattle.coap_observe.specs.declared.observer.Observer.{Observer}
 use Rattle.coap_observe.specs.declared.notice.Registered.{Registered}
 use Rattle.coap_observe.specs.declared.notice.Registered.TheVariants.{New, Replaced, Full}

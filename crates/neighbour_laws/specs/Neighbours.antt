@@ -1,10 +1,10 @@
 -- Neighbours at one servient: what comes from one connection or one endpoint leaves what is another's as it was, but for
 -- what it emitted and what the machine's moment makes due for everybody.
-use Rattle.std.specs.Prelude.{◌≡◌, ◌==◌, ◌||◌, ℕ, Bool, true, false, not, List, [], ◌∷◌, length, map, filter, find, Contains, Option, Some, None}
+use Rattle.std.specs.Prelude.{◌≡◌, ◌==◌, ◌||◌, ℕ, Bool, true, not, List, [], ◌∷◌, length, map, filter, find, Contains, Option, Some, None}
 use Rattle.std.specs.List.{list_any, position}
 use Rattle.coap_msg.specs.declared.endpoint.Endpoint.{Endpoint}
 use Rattle.coap_msg.specs.Endpoints.{is_same_endpoint}
-use Rattle.coap_exchange.specs.Table.{Exchange, Table, at_moment}
+use Rattle.coap_exchange.specs.Table.{Exchange, at_moment}
 use Rattle.coap_observe.specs.declared.observer.Observer.{Observer}
 use Rattle.coap_observe.specs.declared.notice.Notice.{Notice}
 use Rattle.coap_observe.specs.Watching.{is_from, is_of_target, is_due, is_sendable, marked, where_so, without, hopeless, Sends}

@@ -1,0 +1,20 @@
+//! Laws on a consumer and a servient.
+
+ghost use Rattle.consumer_laws.specs.Choosing.{RequestsAreWhatWasChosen};
+ghost use Rattle.consumer_laws.specs.Replying.{RepliesAreReadBack};
+
+/// What is chosen of a derived description over HTTP is the act of its operation: at its path its verb is taken and is
+/// that act. And the bytes of `http_request` are read as the request for it with what is handed in, whole, with nothing
+/// left over, in whatever pieces they come.
+///
+/// It is asked that the head fits into 8,192 bytes and what is handed in into 16,384, that `url` reads each `href` as it is
+/// written, and that the host is of visible characters.
+pub fn requests_are_what_was_chosen()
+    ensures { RequestsAreWhatWasChosen }
+{}
+
+/// A reply over HTTP to a request other than HEAD, of at most 65,536 bytes, is read by `scan_reply` as its status and
+/// payload, whether its connection stays or ends.
+pub fn replies_are_read_back()
+    ensures { RepliesAreReadBack }
+{}

@@ -1,0 +1,13 @@
+//! What a consumer asks a servient over HTTP is what was meant, and so is what it is answered, as laws.
+//!
+//! Each is the contract of a function with an empty body, so that it is proved and can be cited; no code needs to call
+//! it.
+//!
+//! - What is chosen of a derived description is the act of its operation, and the request for it is read as just that:
+//!   `requests_are_what_was_chosen`.
+//! - A reply is read as its status and payload: `replies_are_read_back`.
+#![tactic(auto)]
+
+mod laws;
+
+pub use laws::{replies_are_read_back, requests_are_what_was_chosen};

@@ -1,0 +1,6 @@
+mod HeadLines
+mod HeadBytes
+mod Targets
+mod RequestHeads
+mod RequestsRead
+mod Pieces

@@ -1,0 +1,179 @@
+-- The forms that are generated name no method, and their URLs are a base with segments behind it.
+use Rattle.std.proofs.Common.{◌≡◌, ◌⊎◌, ℕ, Bool, true, false, List, [], ◌∷◌, ◌++◌, append_assoc, append-nil, Option, Some, None, inl, inr, refl, sym, ap, subst, ◌∙◌}
+use Rattle.std.specs.Prelude.{codes, option_map, option_and_then, if◌then◌else◌}
+use Rattle.std.specs.List.{AllByRecursion}
+use Rattle.std.specs.Option.{option_map_or}
+use Rattle.std.specs.Str.{bytes_eq}
+use Rattle.std.proofs.lemmas.Slice.Eq.{bytes_eq-Decides}
+use Rattle.servient_base.specs.Encoding.{encoded}
+use Rattle.wot_json.specs.Tree.{Json, null, boolean, integer, string, array, object, Members}
+use Rattle.wot_json.specs.Lookup.{member_named, member_list, value_under}
+use Rattle.wot_terms.specs.declared.kind.Kind.{Kind}
+use Rattle.wot_terms.specs.declared.kind.Kind.TheVariants as kind
+use Rattle.wot_terms.specs.declared.op.Op.{Op}
+use Rattle.wot_terms.specs.Faults.{holder}
+use Rattle.wot_terms.specs.Affordances.{part, flag_of}
+use Rattle.wot_forms.specs.declared.bases.Bases.{Bases}
+use Rattle.wot_forms.specs.declared.bases.Protocol.{Protocol}
+use Rattle.wot_forms.specs.declared.bases.Protocol.TheVariants.{Http, Coap}
+use Rattle.wot_forms.specs.declared.form.Form.{Form}
+use Rattle.wot_forms.specs.Forms.{default_ops, form_of, list_forms, forms_under, affordance_forms, forms_in}
+use Rattle.wot_forms.specs.Generated.{base_of, form, plain_form, holder_path, affordance_path, observe_form, subscribe_form, protocol_forms, generated_forms, root_ops, generated_root_forms, is_coap_segment, property_ops, with_forms, generated}
+use Rattle.wot_forms.proofs.FormLists.{forms_in_list}
+use Rattle.description_laws.proofs.EncodedBytes.{encoded_is_inside}
+use Rattle.description_laws.proofs.Targets.{slashed, AreParts}
+use Rattle.description_laws.proofs.Paths.{url_of}
+use Rattle.description_laws.proofs.Members.{Field}
+use Rattle.description_laws.proofs.Generation.{held_after, held_is, root_forms_held, root_forms_are}
+use Rattle.description_laws.proofs.AffordanceForms.{all_mapped, forms_after}
+use Rattle.description_laws.proofs.OneThing.{members_for, IsWithForms, made_for}
+
+-- ---- one form
+
+pub record IsPlainForm (bases : Bases) (f : Form) : Type 0 where
+  pub method : f.method ≡ None
+  pub first : List ℕ
+  pub second : List ℕ
+  pub more : List (List ℕ)
+  pub parts : AreParts (first ∷ second ∷ more)
+  pub at : (f.href ≡ bases.http ++ slashed (first ∷ second ∷ more)) ⊎ (f.href ≡ bases.coap ++ slashed (first ∷ second ∷ more))
+
+no_method : (defaults : List Op) (href : List ℕ) (ops : List Op) (sub : Option (List ℕ)) → (form_of defaults (form href ops sub)).method ≡ None
+no_method defaults href ops None = refl
+no_method defaults href ops (Some name) = refl
+
+url_is : (base : List ℕ) (parts : List (List ℕ)) → url_of base parts ≡ base ++ slashed parts
+url_is base [] = sym (append-nil base)
+url_is base (part ∷ parts) =
+    url_is (base ++ codes "/" ++ part) parts
+    ∙ append_assoc (base ++ codes "/") part (slashed parts)
+    ∙ append_assoc base (codes "/") (part ++ slashed parts)
+
+holder_inside : (k : Kind) → AreParts (holder k ∷ [])
+holder_inside kind.Property = (encoded_is_inside (codes "properties"), tt)
+holder_inside kind.Action = (encoded_is_inside (codes "actions"), tt)
+holder_inside kind.Event = (encoded_is_inside (codes "events"), tt)
+
+module _ (bases : Bases) (segment : List ℕ) where
+  at_base : (p : Protocol) (href : List ℕ) (parts : List (List ℕ)) → href ≡ base_of bases p ++ slashed parts → (href ≡ bases.http ++ slashed parts) ⊎ (href ≡ bases.coap ++ slashed parts)
+  at_base Http href parts is = inl is
+  at_base Coap href parts is = inr is
+
+  plain : (p : Protocol) (defaults : List Op) (href : List ℕ) (ops : List Op) (sub : Option (List ℕ)) (k : Kind) (more : List (List ℕ)) → AreParts more
+      → href ≡ url_of (base_of bases p) (encoded segment ∷ holder k ∷ more) → IsPlainForm bases (form_of defaults (form href ops sub))
+  plain p defaults href ops sub k more are is = record {
+    method = no_method defaults href ops sub;
+    first = encoded segment;
+    second = holder k;
+    more = more;
+    parts = (encoded_is_inside segment, ((holder_inside k).0, are));
+    at = at_base p href (encoded segment ∷ holder k ∷ more) (is ∙ url_is (base_of bases p) (encoded segment ∷ holder k ∷ more));
+  }
+
+  abbrev ArePlain : List Op → List Json → Type 0
+  ArePlain defaults forms = AllByRecursion (λ v. IsPlainForm bases (form_of defaults v)) forms
+
+  both_plain : (defaults : List Op) (xs ys : List Json) → ArePlain defaults xs → ArePlain defaults ys → ArePlain defaults (xs ++ ys)
+  both_plain defaults [] ys one other = other
+  both_plain defaults (x ∷ xs) ys one other = (one.0, both_plain defaults xs ys one.1 other)
+
+  only_where : (defaults : List Op) (b : Bool) (forms : List Json) → ArePlain defaults forms → ArePlain defaults (if b then forms else [])
+  only_where defaults true forms all = all
+  only_where defaults false forms all = tt
+
+  plain_ops : (p : Protocol) (defaults : List Op) (href : List ℕ) (ops : List Op) (k : Kind) (more : List (List ℕ)) → AreParts more
+      → href ≡ url_of (base_of bases p) (encoded segment ∷ holder k ∷ more) → ArePlain defaults (plain_form href ops)
+  plain_ops p defaults href [] k more are is = tt
+  plain_ops p defaults href (o ∷ ops) k more are is = (plain p defaults href (o ∷ ops) None k more are is, tt)
+
+  module _ (name : List ℕ) (defaults : List Op) where
+    named : AreParts (encoded name ∷ [])
+    named = (encoded_is_inside name, tt)
+
+    longer : (url word : List ℕ) → url ++ (47 ∷ word) ≡ url ++ codes "/" ++ word
+    longer url word = sym (append_assoc url (codes "/") word)
+
+    observed : (p : Protocol) → IsPlainForm bases (form_of defaults (observe_form p (affordance_path (base_of bases p) segment kind.Property name)))
+    observed Http =
+        plain Http defaults (affordance_path bases.http segment kind.Property name ++ codes "/observe") _ _ kind.Property (encoded name ∷ codes "observe" ∷ []) (encoded_is_inside name, (encoded_is_inside (codes "observe"), tt))
+        (longer (affordance_path bases.http segment kind.Property name) (codes "observe"))
+    observed Coap =
+        plain Coap defaults (affordance_path bases.coap segment kind.Property name ++ []) _ _ kind.Property (encoded name ∷ []) named (append-nil (affordance_path bases.coap segment kind.Property name))
+
+    subscribed : (p : Protocol) → IsPlainForm bases (form_of defaults (subscribe_form p (affordance_path (base_of bases p) segment kind.Event name)))
+    subscribed Http =
+        plain Http defaults (affordance_path bases.http segment kind.Event name ++ codes "/subscribe") _ _ kind.Event (encoded name ∷ codes "subscribe" ∷ []) (encoded_is_inside name, (encoded_is_inside (codes "subscribe"), tt))
+        (longer (affordance_path bases.http segment kind.Event name) (codes "subscribe"))
+    subscribed Coap =
+        plain Coap defaults (affordance_path bases.coap segment kind.Event name ++ []) _ _ kind.Event (encoded name ∷ []) named (append-nil (affordance_path bases.coap segment kind.Event name))
+
+    by_protocol : (p : Protocol) (k : Kind) (v : Json) → ArePlain defaults (protocol_forms p k v (affordance_path (base_of bases p) segment k name))
+    by_protocol p kind.Property v =
+        both_plain defaults (plain_form (affordance_path (base_of bases p) segment kind.Property name) (property_ops v)) _
+        (plain_ops p defaults (affordance_path (base_of bases p) segment kind.Property name) (property_ops v) kind.Property (encoded name ∷ []) named refl)
+        (only_where defaults (flag_of (codes "observable") v) (observe_form p (affordance_path (base_of bases p) segment kind.Property name) ∷ []) (observed p, tt))
+    by_protocol p kind.Action v =
+        (plain p defaults (affordance_path (base_of bases p) segment kind.Action name) (default_ops kind.Action false false) None kind.Action (encoded name ∷ []) named refl, tt)
+    by_protocol p kind.Event v = (subscribed p, tt)
+
+    all_plain : (k : Kind) (v : Json) → ArePlain defaults (generated_forms bases segment k name v)
+    all_plain k v =
+        both_plain defaults (protocol_forms Http k v (affordance_path bases.http segment k name)) _ (by_protocol Http k v)
+        (only_where defaults (is_coap_segment name) (protocol_forms Coap k v (affordance_path bases.coap segment k name)) (by_protocol Coap k v))
+
+  -- the forms of an affordance that has those that were generated
+  with_plain : (k : Kind) (m : Field) → IsWithForms bases segment k m → AllByRecursion (IsPlainForm bases) (affordance_forms k m.1)
+  with_plain k m made =
+      subst (λ (v : Json). AllByRecursion (IsPlainForm bases) (affordance_forms k v)) (sym made.1)
+      (forms_after (IsPlainForm bases) (ops_of_value (with_forms (generated_forms bases segment k m.0 made.0) made.0)) (generated_forms bases segment k m.0 made.0) made.0
+      (all_plain m.0 (ops_of_value (with_forms (generated_forms bases segment k m.0 made.0) made.0)) k made.0))
+    where
+      ops_of_value : Json → List Op
+      ops_of_value v = default_ops k (flag_of (codes "readOnly") v) (flag_of (codes "writeOnly") v)
+
+  -- ---- the description
+
+  -- what is found by its name holds what all hold
+  found_holds : (P : Field → Type 0) (name : List ℕ) (ms : List Field) (v : Json) → AllByRecursion P ms → member_named name ms ≡ Some v → P (name, v)
+  found_holds P name [] v all is = absurd cc
+  found_holds P name (m ∷ ms) v all is = by (bytes_eq name m.0) refl is
+    where
+      value : Some m.1 ≡ Some v → m.1 ≡ v
+      value e = cc
+
+      by : (b : Bool) → bytes_eq name m.0 ≡ b → (if b then Some m.1 else member_named name ms) ≡ Some v → P (name, v)
+      by true same found = subst (λ (n : List ℕ). P (n, v)) (sym ((bytes_eq-Decides name m.0).0 same)) (subst (λ (w : Json). P (m.0, w)) (value found) all.0)
+      by false differ found = found_holds P name ms v all.1 found
+
+  module _ (ms : Members) where
+    abbrev pub tree : Json
+    tree = generated (object ms) bases segment
+
+    -- the affordance of a name among those that have their forms
+    pub affordance_plain : (k : Kind) (name : List ℕ) (v : Json) → value_under name (members_for (part (holder k) tree)) ≡ Some v → AllByRecursion (IsPlainForm bases) (affordance_forms k v)
+    affordance_plain k name v is =
+        with_plain k (name, v)
+        (found_holds (IsWithForms bases segment k) name (member_list (members_for (part (holder k) tree))) v
+        (subst (λ (o : Option Json). AllByRecursion (IsWithForms bases segment k) (member_list (members_for o))) (sym (held_is bases segment ms k)) (made_for bases segment k (value_under (holder k) ms)))
+        is)
+
+    -- the forms of the whole
+    roots : (properties : List Field) → ArePlain [] (generated_root_forms bases segment properties)
+    roots properties =
+        both_plain [] (plain_form (holder_path bases.http segment kind.Property) (root_ops properties)) (plain_form (holder_path bases.coap segment kind.Property) (root_ops properties))
+        (plain_ops Http [] (holder_path bases.http segment kind.Property) (root_ops properties) kind.Property [] tt refl)
+        (plain_ops Coap [] (holder_path bases.coap segment kind.Property) (root_ops properties) kind.Property [] tt refl)
+
+    pub root_plain : AllByRecursion (IsPlainForm bases) (forms_under [] tree)
+    root_plain = subst (λ (o : Option Json). AllByRecursion (IsPlainForm bases) (option_map_or (list_forms []) o [])) (sym (root_forms_are bases segment ms)) (by (value_under (holder kind.Property) ms))
+      where
+        by : (o : Option Json) → AllByRecursion (IsPlainForm bases) (option_map_or (list_forms []) (root_forms_held bases segment o) [])
+        by (Some (object os)) =
+            subst (λ (fs : List Form). AllByRecursion (IsPlainForm bases) fs) (sym (forms_in_list [] (generated_root_forms bases segment (member_list os))))
+            (all_mapped (IsPlainForm bases) (form_of []) (generated_root_forms bases segment (member_list os)) (roots (member_list os)))
+        by (Some null) = tt
+        by (Some (boolean b)) = tt
+        by (Some (integer z)) = tt
+        by (Some (string s)) = tt
+        by (Some (array es)) = tt
+        by None = tt

@@ -32,7 +32,7 @@ use Rattle.wot_consumer.specs.declared.chosen.Chosen.{Chosen}
 use Rattle.wot_consumer.specs.declared.wanted.SoughtForm.{SoughtForm}
 use Rattle.wot_consumer.specs.Choice.{Qualifies, IsPassedOver, IsFirst, IsChosen, base_of, wanted}
 use Rattle.wot_consumer.specs.Operations.{is_consumed, kind_of, default_verb, verb_of}
-use Rattle.wot_consumer.specs.Places.{scheme_named}
+use Rattle.wot_consumer.specs.Places.{scheme_named, segments_of as url_segments}
 use Rattle.description_laws.specs.Encoding.{AreBytes}
 use Rattle.description_laws.specs.Leading.{Http, Coap, IsTaken, Leads, FormLeads, RootFormLeads, AffordanceIsReached, IsReached, asked_by_http, asked_by, asked_of_thing, watched_by}
 use Rattle.description_laws.proofs.Targets.{slashed, AreParts, segments_read, target_read}
@@ -119,7 +119,7 @@ module _ (bases : Bases) (site : Site) (asked : Op → Option (Verb × ThingAct)
       at_path : f.href ≡ bases.http ++ slashed (plain.first ∷ plain.second ∷ plain.more) → c.path ≡ map percent_decode (plain.first ∷ plain.second ∷ plain.more)
       at_path is =
           q.leads.path
-          ∙ ap Rattle.wot_consumer.specs.Places.segments_of (written.http (slashed (plain.first ∷ plain.second ∷ plain.more)) is)
+          ∙ ap url_segments (written.http (slashed (plain.first ∷ plain.second ∷ plain.more)) is)
           ∙ segments_read plain.first (plain.second ∷ plain.more) plain.parts two
 
       said : (target : List ℕ) (path : List (List ℕ)) → f.href ≡ bases.http ++ slashed (plain.first ∷ plain.second ∷ plain.more) → f.href ≡ bases.http ++ target → segments_of target ≡ Some path
@@ -294,38 +294,22 @@ module _ (bases : Bases) (site : Site) (segment : List ℕ) (plain : is_plain_se
         record { its_act = of_affordance site thing name c k o p consumed of named at; verb = verb_is_known o c.verb at.verb; path = at.path }
 
   -- a description that is no object has no forms
-  none_there : (kinds : Option Kind) (forms : List Form) (base : Option (List ℕ)) → (elim kinds as (λ _. Option (List Form)) [ None ↦ Some [] | Some k ↦ None ]) ≡ Some forms → IsFirst (wanted o only) base forms (Some c) → ⊥
-  none_there None forms base is first = subst (λ (fs : List Form). IsFirst (wanted o only) base fs (Some c)) (same is) first
+  none_there : (v : Json) → ((k : Kind) → part (holder k) v ≡ None) → forms_under [] v ≡ [] → (kinds : Option Kind) (forms : List Form) → forms_in v kinds name ≡ Some forms
+      → IsFirst (wanted o only) (base_of v) forms (Some c) → ⊥
+  none_there v held none None forms is first = subst (λ (fs : List Form). IsFirst (wanted o only) (base_of v) fs (Some c)) (same is ∙ none) first
     where
-      same : Some [] ≡ Some forms → forms ≡ []
+      same : Some (forms_under [] v) ≡ Some forms → forms ≡ forms_under [] v
       same e = cc
-  none_there (Some k) forms base is first = cc
+  none_there v held none (Some k) forms is first = never (sym (ap (λ (x : Option Json). option_map (affordance_forms k) (option_and_then (part name) x)) (held k)) ∙ is)
+    where
+      never : None ≡ Some forms → ⊥
+      never e = cc
 
   pub known_choice : (value : Json) → IsReached bases site (exposed slots (segment, generated value bases segment)) → IsChosen (generated value bases segment) (wanted o only) name c
       → AreAsWritten bases (generated value bases segment) o name → IsKnownChoice site (exposed slots (segment, generated value bases segment)) o name c
   known_choice (object ms) reached (forms, is, first) read = by_kind ms (kind_of o) refl reached forms is first read
-  known_choice null reached (forms, is, first) read = absurd (none_there (kind_of o) forms (base_of null) (no_forms null (kind_of o) is) first)
-    where
-      no_forms : (v : Json) (kinds : Option Kind) → forms_in null kinds name ≡ Some forms → (elim kinds as (λ _. Option (List Form)) [ None ↦ Some [] | Some k ↦ None ]) ≡ Some forms
-      no_forms v None e = e
-      no_forms v (Some k) e = e
-  known_choice (boolean b) reached (forms, is, first) read = absurd (none_there (kind_of o) forms (base_of (boolean b)) (no_forms (kind_of o) is) first)
-    where
-      no_forms : (kinds : Option Kind) → forms_in (boolean b) kinds name ≡ Some forms → (elim kinds as (λ _. Option (List Form)) [ None ↦ Some [] | Some k ↦ None ]) ≡ Some forms
-      no_forms None e = e
-      no_forms (Some k) e = e
-  known_choice (integer z) reached (forms, is, first) read = absurd (none_there (kind_of o) forms (base_of (integer z)) (no_forms (kind_of o) is) first)
-    where
-      no_forms : (kinds : Option Kind) → forms_in (integer z) kinds name ≡ Some forms → (elim kinds as (λ _. Option (List Form)) [ None ↦ Some [] | Some k ↦ None ]) ≡ Some forms
-      no_forms None e = e
-      no_forms (Some k) e = e
-  known_choice (string s) reached (forms, is, first) read = absurd (none_there (kind_of o) forms (base_of (string s)) (no_forms (kind_of o) is) first)
-    where
-      no_forms : (kinds : Option Kind) → forms_in (string s) kinds name ≡ Some forms → (elim kinds as (λ _. Option (List Form)) [ None ↦ Some [] | Some k ↦ None ]) ≡ Some forms
-      no_forms None e = e
-      no_forms (Some k) e = e
-  known_choice (array es) reached (forms, is, first) read = absurd (none_there (kind_of o) forms (base_of (array es)) (no_forms (kind_of o) is) first)
-    where
-      no_forms : (kinds : Option Kind) → forms_in (array es) kinds name ≡ Some forms → (elim kinds as (λ _. Option (List Form)) [ None ↦ Some [] | Some k ↦ None ]) ≡ Some forms
-      no_forms None e = e
-      no_forms (Some k) e = e
+  known_choice null reached (forms, is, first) read = absurd (none_there null (λ k. refl) refl (kind_of o) forms is first)
+  known_choice (boolean b) reached (forms, is, first) read = absurd (none_there (boolean b) (λ k. refl) refl (kind_of o) forms is first)
+  known_choice (integer z) reached (forms, is, first) read = absurd (none_there (integer z) (λ k. refl) refl (kind_of o) forms is first)
+  known_choice (string s) reached (forms, is, first) read = absurd (none_there (string s) (λ k. refl) refl (kind_of o) forms is first)
+  known_choice (array es) reached (forms, is, first) read = absurd (none_there (array es) (λ k. refl) refl (kind_of o) forms is first)

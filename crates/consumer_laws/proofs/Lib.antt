@@ -4,3 +4,6 @@ mod Targets
 mod RequestHeads
 mod RequestsRead
 mod Pieces
+mod GeneratedForms
+mod Choices
+mod WhatWasChosen

@@ -7,3 +7,5 @@ mod Pieces
 mod GeneratedForms
 mod Choices
 mod WhatWasChosen
+mod ReplyHeads
+mod RepliesRead

@@ -1,6 +1,6 @@
 -- What is chosen of a derived description over HTTP is the act of its operation.
 use Rattle.std.proofs.Common.{◌≡◌, ◌≢◌, ◌⊎◌, ◌<◌, ℕ, zero, suc, Bool, true, false, List, [], ◌∷◌, ◌++◌, length, map, Option, Some, None, Ok, inl, inr, refl, sym, ap, subst, ◌∙◌, arith}
-use Rattle.std.specs.Prelude.{codes, Contains, IfSome, slice_index_or, unwrap_or, option_map, option_and_then, if◌then◌else◌}
+use Rattle.std.specs.Prelude.{◌&&◌, codes, Contains, IfSome, slice_index_or, unwrap_or, option_map, option_and_then, if◌then◌else◌}
 use Rattle.std.specs.List.{AllByRecursion}
 use Rattle.std.specs.Str.{bytes_eq}
 use Rattle.std.proofs.lemmas.Slice.Eq.{bytes_eq-Decides}
@@ -36,7 +36,7 @@ use Rattle.wot_consumer.specs.Places.{scheme_named, segments_of as url_segments}
 use Rattle.description_laws.specs.Encoding.{AreBytes}
 use Rattle.description_laws.specs.Leading.{Http, Coap, IsTaken, Leads, FormLeads, RootFormLeads, AffordanceIsReached, IsReached, asked_by_http, asked_by, asked_of_thing, watched_by}
 use Rattle.description_laws.proofs.Targets.{slashed, AreParts, segments_read, target_read}
-use Rattle.description_laws.proofs.OneThing.{members_for, found}
+use Rattle.description_laws.proofs.OneThing.{members_for, found as affordance_found}
 use Rattle.consumer_laws.specs.Choosing.{asked_from, IsItsAct, IsAsWritten, AreAsWritten}
 use Rattle.consumer_laws.proofs.GeneratedForms.{IsPlainForm, affordance_plain, root_plain}
 
@@ -62,7 +62,7 @@ named_holds P k name (x ∷ ps) p all is = by (is_kind k x.affordance.kind) (byt
     value : Some x ≡ Some p → x ≡ p
     value e = cc
 
-    by : (s t : Bool) → (if (if s then t else false) then Some x else affordance_named k name ps) ≡ Some p → P p
+    by : (s t : Bool) → (if s && t then Some x else affordance_named k name ps) ≡ Some p → P p
     by true true found = subst P (value found) all.0
     by true false found = named_holds P k name ps p all.1 found
     by false t found = named_holds P k name ps p all.1 found
@@ -103,12 +103,6 @@ module _ (bases : Bases) (site : Site) (asked : Op → Option (Verb × ThingAct)
 
       named : q.url.scheme ≡ codes "http"
       named = scheme_is q.url.scheme (q.leads.scheme ∙ ap Some http)
-
-      parts : List (List ℕ)
-      parts = plain.first ∷ plain.second ∷ plain.more
-
-      decoded : List (List ℕ)
-      decoded = map percent_decode (plain.first ∷ plain.second ∷ plain.more)
 
       two : plain.first ∷ plain.second ∷ plain.more ≢ [] ∷ []
       two = λ e. cc
@@ -235,7 +229,7 @@ verb_is_known o v is same = isnt o (sym is ∙ same)
 -- the value of an affordance that has forms
 pub record IsHeld (k : Kind) (name : List ℕ) (held : Option Json) (forms : List Form) : Type 0 where
   pub value : Json
-  pub found : value_under name (members_for held) ≡ Some value
+  pub there : value_under name (members_for held) ≡ Some value
   pub forms_are : forms ≡ affordance_forms k value
 
 held_value : (k : Kind) (name : List ℕ) (held : Option Json) (forms : List Form) → option_map (affordance_forms k) (option_and_then (part name) held) ≡ Some forms → IsHeld k name held forms
@@ -249,7 +243,7 @@ held_value k name (Some (object ms)) forms is = by (value_under name ms) refl is
   where
     by : (o : Option Json) → value_under name ms ≡ o → option_map (affordance_forms k) o ≡ Some forms → IsHeld k name (Some (object ms)) forms
     by None at found = absurd cc
-    by (Some v) at found = record { value = v; found = at; forms_are = sym (same found) }
+    by (Some v) at found = record { value = v; there = at; forms_are = sym (same found) }
       where
         same : Some (affordance_forms k v) ≡ Some forms → affordance_forms k v ≡ forms
         same e = cc
@@ -284,11 +278,11 @@ module _ (bases : Bases) (site : Site) (segment : List ℕ) (plain : is_plain_se
     by_kind (Some k) of reached forms is first read =
         let held = held_value k name (part (holder k) tree) forms is in
         let p : Placed = placed slots segment (affordance_of k name held.value) in
-        let named : affordance_named k name thing.affordances ≡ Some p = found bases site segment plain slots ms k name held.value held.found in
+        let named : affordance_named k name thing.affordances ≡ Some p = affordance_found bases site segment plain slots ms k name held.value held.there in
         let lead : AllByRecursion (FormLeads bases site p) (unwrap_or (forms_in tree (Some k) name) []) = named_holds (AffordanceIsReached bases site thing) k name thing.affordances p reached.affordances named are in
         let at = at_path_of bases site (λ x. asked_by Http x p) (λ x. watched_by Http x p) (λ x. asked_by Coap x p) (λ x. watched_by Coap x p) o only (base_of tree) c http forms
         (subst (λ (fs : Option (List Form)). AllByRecursion (FormLeads bases site p) (unwrap_or fs [])) is lead)
-        (subst (λ (fs : List Form). AllByRecursion (IsPlainForm bases) fs) (sym held.forms_are) (affordance_plain bases segment ms k name held.value held.found))
+        (subst (λ (fs : List Form). AllByRecursion (IsPlainForm bases) fs) (sym held.forms_are) (affordance_plain bases segment ms k name held.value held.there))
         (subst (λ (fs : Option (List Form)). AllByRecursion (λ (f : Form). (url : Parts) → joined_url (base_of tree) f.href ≡ Ok url → IsAsWritten bases f.href url) (unwrap_or fs [])) is read)
         first in
         record { its_act = of_affordance site thing name c k o p consumed of named at; verb = verb_is_known o c.verb at.verb; path = at.path }

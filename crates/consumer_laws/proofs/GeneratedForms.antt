@@ -11,6 +11,7 @@ use Rattle.wot_json.specs.Lookup.{member_named, member_list, value_under}
 use Rattle.wot_terms.specs.declared.kind.Kind.{Kind}
 use Rattle.wot_terms.specs.declared.kind.Kind.TheVariants as kind
 use Rattle.wot_terms.specs.declared.op.Op.{Op}
+use Rattle.wot_terms.specs.declared.op.Op.TheVariants as op
 use Rattle.wot_terms.specs.Faults.{holder}
 use Rattle.wot_terms.specs.Affordances.{part, flag_of}
 use Rattle.wot_forms.specs.declared.bases.Bases.{Bases}
@@ -22,7 +23,7 @@ use Rattle.wot_forms.specs.Generated.{base_of, form, plain_form, holder_path, af
 use Rattle.wot_forms.proofs.FormLists.{forms_in_list}
 use Rattle.description_laws.proofs.EncodedBytes.{encoded_is_inside}
 use Rattle.description_laws.proofs.Targets.{slashed, AreParts}
-use Rattle.description_laws.proofs.Paths.{url_of}
+use Rattle.description_laws.proofs.Paths.{url_of, url_is}
 use Rattle.description_laws.proofs.Members.{Field}
 use Rattle.description_laws.proofs.Generation.{held_after, held_is, root_forms_held, root_forms_are}
 use Rattle.description_laws.proofs.AffordanceForms.{all_mapped, forms_after}
@@ -41,13 +42,6 @@ pub record IsPlainForm (bases : Bases) (f : Form) : Type 0 where
 no_method : (defaults : List Op) (href : List ℕ) (ops : List Op) (sub : Option (List ℕ)) → (form_of defaults (form href ops sub)).method ≡ None
 no_method defaults href ops None = refl
 no_method defaults href ops (Some name) = refl
-
-url_is : (base : List ℕ) (parts : List (List ℕ)) → url_of base parts ≡ base ++ slashed parts
-url_is base [] = sym (append-nil base)
-url_is base (part ∷ parts) =
-    url_is (base ++ codes "/" ++ part) parts
-    ∙ append_assoc (base ++ codes "/") part (slashed parts)
-    ∙ append_assoc base (codes "/") (part ++ slashed parts)
 
 holder_inside : (k : Kind) → AreParts (holder k ∷ [])
 holder_inside kind.Property = (encoded_is_inside (codes "properties"), tt)
@@ -95,17 +89,17 @@ module _ (bases : Bases) (segment : List ℕ) where
 
     observed : (p : Protocol) → IsPlainForm bases (form_of defaults (observe_form p (affordance_path (base_of bases p) segment kind.Property name)))
     observed Http =
-        plain Http defaults (affordance_path bases.http segment kind.Property name ++ codes "/observe") _ _ kind.Property (encoded name ∷ codes "observe" ∷ []) (encoded_is_inside name, (encoded_is_inside (codes "observe"), tt))
+        plain Http defaults (affordance_path bases.http segment kind.Property name ++ codes "/observe") (op.ObserveProperty ∷ op.UnobserveProperty ∷ []) (Some (codes "longpoll")) kind.Property (encoded name ∷ codes "observe" ∷ []) (encoded_is_inside name, (encoded_is_inside (codes "observe"), tt))
         (longer (affordance_path bases.http segment kind.Property name) (codes "observe"))
     observed Coap =
-        plain Coap defaults (affordance_path bases.coap segment kind.Property name ++ []) _ _ kind.Property (encoded name ∷ []) named (append-nil (affordance_path bases.coap segment kind.Property name))
+        plain Coap defaults (affordance_path bases.coap segment kind.Property name ++ []) (op.ObserveProperty ∷ op.UnobserveProperty ∷ []) (Some (codes "cov:observe")) kind.Property (encoded name ∷ []) named (append-nil (affordance_path bases.coap segment kind.Property name))
 
     subscribed : (p : Protocol) → IsPlainForm bases (form_of defaults (subscribe_form p (affordance_path (base_of bases p) segment kind.Event name)))
     subscribed Http =
-        plain Http defaults (affordance_path bases.http segment kind.Event name ++ codes "/subscribe") _ _ kind.Event (encoded name ∷ codes "subscribe" ∷ []) (encoded_is_inside name, (encoded_is_inside (codes "subscribe"), tt))
+        plain Http defaults (affordance_path bases.http segment kind.Event name ++ codes "/subscribe") (op.SubscribeEvent ∷ op.UnsubscribeEvent ∷ []) (Some (codes "longpoll")) kind.Event (encoded name ∷ codes "subscribe" ∷ []) (encoded_is_inside name, (encoded_is_inside (codes "subscribe"), tt))
         (longer (affordance_path bases.http segment kind.Event name) (codes "subscribe"))
     subscribed Coap =
-        plain Coap defaults (affordance_path bases.coap segment kind.Event name ++ []) _ _ kind.Event (encoded name ∷ []) named (append-nil (affordance_path bases.coap segment kind.Event name))
+        plain Coap defaults (affordance_path bases.coap segment kind.Event name ++ []) (op.SubscribeEvent ∷ op.UnsubscribeEvent ∷ []) (Some (codes "cov:observe")) kind.Event (encoded name ∷ []) named (append-nil (affordance_path bases.coap segment kind.Event name))
 
     by_protocol : (p : Protocol) (k : Kind) (v : Json) → ArePlain defaults (protocol_forms p k v (affordance_path (base_of bases p) segment k name))
     by_protocol p kind.Property v =
@@ -121,15 +115,16 @@ module _ (bases : Bases) (segment : List ℕ) where
         both_plain defaults (protocol_forms Http k v (affordance_path bases.http segment k name)) _ (by_protocol Http k v)
         (only_where defaults (is_coap_segment name) (protocol_forms Coap k v (affordance_path bases.coap segment k name)) (by_protocol Coap k v))
 
+  -- the operations of its forms that name none
+  abbrev own_ops : Kind → Json → List Op
+  own_ops k v = default_ops k (flag_of (codes "readOnly") v) (flag_of (codes "writeOnly") v)
+
   -- the forms of an affordance that has those that were generated
   with_plain : (k : Kind) (m : Field) → IsWithForms bases segment k m → AllByRecursion (IsPlainForm bases) (affordance_forms k m.1)
   with_plain k m made =
       subst (λ (v : Json). AllByRecursion (IsPlainForm bases) (affordance_forms k v)) (sym made.1)
-      (forms_after (IsPlainForm bases) (ops_of_value (with_forms (generated_forms bases segment k m.0 made.0) made.0)) (generated_forms bases segment k m.0 made.0) made.0
-      (all_plain m.0 (ops_of_value (with_forms (generated_forms bases segment k m.0 made.0) made.0)) k made.0))
-    where
-      ops_of_value : Json → List Op
-      ops_of_value v = default_ops k (flag_of (codes "readOnly") v) (flag_of (codes "writeOnly") v)
+      (forms_after (IsPlainForm bases) (own_ops k (with_forms (generated_forms bases segment k m.0 made.0) made.0)) (generated_forms bases segment k m.0 made.0) made.0
+      (all_plain m.0 (own_ops k (with_forms (generated_forms bases segment k m.0 made.0) made.0)) k made.0))
 
   -- ---- the description
 

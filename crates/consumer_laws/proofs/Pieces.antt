@@ -44,12 +44,12 @@ module _ (bytes : List ℕ) (request : RequestSeen) (one : IsOneMessage bytes re
       let few = front_within part first.0 first.1 in
       none_missing missing some (omega (arith, all, few, ap length is, length-append part missing))
 
-  early : (x : Connection) (taken : List RequestSeen) (missing : List ℕ) → AreFirst x.stream taken x.taken → x.stream ++ missing ≡ bytes → missing ≢ [] → taken ≡ []
-  early x [] missing first is some = refl
-  early x (q ∷ qs) missing (used, behind, first, others, e) is some = absurd (none_early x.stream missing q used is some first)
+  none_taken : (x : Connection) (taken : List RequestSeen) (missing : List ℕ) → AreFirst x.stream taken x.taken → x.stream ++ missing ≡ bytes → missing ≢ [] → taken ≡ []
+  none_taken x [] missing first is some = refl
+  none_taken x (q ∷ qs) missing (used, behind, first, others, e) is some = absurd (none_early x.stream missing q used is some first)
 
   pub taken_once : IsTakenOnce bytes request
   taken_once = record {
-    early = λ x taken missing has is some. early x taken missing (takes_the_first x taken has) is some;
+    early = λ x taken missing has is some. none_taken x taken missing (takes_the_first x taken has) is some;
     whole = λ x taken has is dry. has_one_list bytes taken (request ∷ []) (subst (λ (s : List ℕ). AreRequests s taken) is (takes_all x taken has dry)) are_requests;
   }

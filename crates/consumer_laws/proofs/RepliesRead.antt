@@ -41,18 +41,12 @@ module _ (r : PlainReply) (status : IsStatus r.status) (texts : HasTexts r) (bod
       fits : nat_le (length body) (length body) ≡ true
       fits = grind (arith, nat_tests)
 
-  abbrev head : List ℕ
-  head = printed (start_line status ∷ map line_of (reply_lines r))
-
-  abbrev found : ReplyFront
-  found = front.Reply r.status body (0 + length (printed (start_line status ∷ map line_of (reply_lines r))) + length body)
-
   is_after : (ended : Bool) → IsReplyAfter ended (front.Reply r.status body (0 + length (printed (start_line status ∷ map line_of (reply_lines r))) + length body)) 0 (printed (start_line status ∷ map line_of (reply_lines r)) ++ body)
   is_after ended =
       final 0 (printed (start_line status ∷ map line_of (reply_lines r)) ++ body) (length (printed (start_line status ∷ map line_of (reply_lines r)))) (record { status = r.status; framing = Some (framing.Stated (length body)) })
       (lines_end (start_line status) (map line_of (reply_lines r)) body (are_lines r status texts).0 (are_lines r status texts).1)
       (subst (λ (x : List ℕ). IsReplyJudged x (Ok (record { status = r.status; framing = Some (framing.Stated (length body)) }))) (sym (take-append_seam (printed (start_line status ∷ map line_of (reply_lines r))) body)) (judged r status texts (length body) size none))
-      status.final
+      status.is_last
       (sym (ap (λ (x : List ℕ). with_reply_body r.status (0 + length (printed (start_line status ∷ map line_of (reply_lines r)))) (stated_body (length body) x)) (drop-append_seam (printed (start_line status ∷ map line_of (reply_lines r))) body)
       ∙ ap (with_reply_body r.status (0 + length (printed (start_line status ∷ map line_of (reply_lines r))))) body_is))
 
@@ -65,7 +59,7 @@ module _ (r : PlainReply) (status : IsStatus r.status) (texts : HasTexts r) (bod
         front.Reply r.status body (0 + length (printed (start_line status ∷ map line_of (reply_lines r))) + length body),
         subst (λ (x : List ℕ). IsReplyAfter ended (front.Reply r.status body (0 + length (printed (start_line status ∷ map line_of (reply_lines r))) + length body)) 0 x)
             (sym (take_all (longest_reply + 1) (printed (start_line status ∷ map line_of (reply_lines r)) ++ body) (omega (arith, few)))) (is_after ended),
-        sym (rw fits refl),
+        ap (λ (b : Bool). if b then scan.Whole r.status body else scan.TooLong) (sym fits),
       )
         where
           fits : nat_le (0 + length (printed (start_line status ∷ map line_of (reply_lines r))) + length body) longest_reply ≡ true
@@ -73,50 +67,50 @@ module _ (r : PlainReply) (status : IsStatus r.status) (texts : HasTexts r) (bod
 
 -- ---- statuses
 
-is_200 : IsStatus 200
-is_200 = record { digits = codes "200"; reason = codes "OK"; phrase = refl; three = refl; are_digits = refl; plain_digits = refl; value = refl; reason_value = refl; plain_reason = refl; final = refl; bodiless = false; has_none = refl; unwritten = refl }
+abbrev is_200 : IsStatus 200
+is_200 = record { digits = codes "200"; reason = codes "OK"; phrase = refl; three = refl; are_digits = refl; plain_digits = refl; value = refl; reason_value = refl; plain_reason = refl; is_last = refl; bodiless = false; has_none = refl; unwritten = refl }
 
-is_201 : IsStatus 201
-is_201 = record { digits = codes "201"; reason = codes "Created"; phrase = refl; three = refl; are_digits = refl; plain_digits = refl; value = refl; reason_value = refl; plain_reason = refl; final = refl; bodiless = false; has_none = refl; unwritten = refl }
+abbrev is_201 : IsStatus 201
+is_201 = record { digits = codes "201"; reason = codes "Created"; phrase = refl; three = refl; are_digits = refl; plain_digits = refl; value = refl; reason_value = refl; plain_reason = refl; is_last = refl; bodiless = false; has_none = refl; unwritten = refl }
 
-is_204 : IsStatus 204
-is_204 = record { digits = codes "204"; reason = codes "No Content"; phrase = refl; three = refl; are_digits = refl; plain_digits = refl; value = refl; reason_value = refl; plain_reason = refl; final = refl; bodiless = true; has_none = refl; unwritten = refl }
+abbrev is_204 : IsStatus 204
+is_204 = record { digits = codes "204"; reason = codes "No Content"; phrase = refl; three = refl; are_digits = refl; plain_digits = refl; value = refl; reason_value = refl; plain_reason = refl; is_last = refl; bodiless = true; has_none = refl; unwritten = refl }
 
-is_304 : IsStatus 304
-is_304 = record { digits = codes "304"; reason = codes "Not Modified"; phrase = refl; three = refl; are_digits = refl; plain_digits = refl; value = refl; reason_value = refl; plain_reason = refl; final = refl; bodiless = true; has_none = refl; unwritten = refl }
+abbrev is_304 : IsStatus 304
+is_304 = record { digits = codes "304"; reason = codes "Not Modified"; phrase = refl; three = refl; are_digits = refl; plain_digits = refl; value = refl; reason_value = refl; plain_reason = refl; is_last = refl; bodiless = true; has_none = refl; unwritten = refl }
 
-is_400 : IsStatus 400
-is_400 = record { digits = codes "400"; reason = codes "Bad Request"; phrase = refl; three = refl; are_digits = refl; plain_digits = refl; value = refl; reason_value = refl; plain_reason = refl; final = refl; bodiless = false; has_none = refl; unwritten = refl }
+abbrev is_400 : IsStatus 400
+is_400 = record { digits = codes "400"; reason = codes "Bad Request"; phrase = refl; three = refl; are_digits = refl; plain_digits = refl; value = refl; reason_value = refl; plain_reason = refl; is_last = refl; bodiless = false; has_none = refl; unwritten = refl }
 
-is_403 : IsStatus 403
-is_403 = record { digits = codes "403"; reason = codes "Forbidden"; phrase = refl; three = refl; are_digits = refl; plain_digits = refl; value = refl; reason_value = refl; plain_reason = refl; final = refl; bodiless = false; has_none = refl; unwritten = refl }
+abbrev is_403 : IsStatus 403
+is_403 = record { digits = codes "403"; reason = codes "Forbidden"; phrase = refl; three = refl; are_digits = refl; plain_digits = refl; value = refl; reason_value = refl; plain_reason = refl; is_last = refl; bodiless = false; has_none = refl; unwritten = refl }
 
-is_404 : IsStatus 404
-is_404 = record { digits = codes "404"; reason = codes "Not Found"; phrase = refl; three = refl; are_digits = refl; plain_digits = refl; value = refl; reason_value = refl; plain_reason = refl; final = refl; bodiless = false; has_none = refl; unwritten = refl }
+abbrev is_404 : IsStatus 404
+is_404 = record { digits = codes "404"; reason = codes "Not Found"; phrase = refl; three = refl; are_digits = refl; plain_digits = refl; value = refl; reason_value = refl; plain_reason = refl; is_last = refl; bodiless = false; has_none = refl; unwritten = refl }
 
-is_405 : IsStatus 405
-is_405 = record { digits = codes "405"; reason = codes "Method Not Allowed"; phrase = refl; three = refl; are_digits = refl; plain_digits = refl; value = refl; reason_value = refl; plain_reason = refl; final = refl; bodiless = false; has_none = refl; unwritten = refl }
+abbrev is_405 : IsStatus 405
+is_405 = record { digits = codes "405"; reason = codes "Method Not Allowed"; phrase = refl; three = refl; are_digits = refl; plain_digits = refl; value = refl; reason_value = refl; plain_reason = refl; is_last = refl; bodiless = false; has_none = refl; unwritten = refl }
 
-is_406 : IsStatus 406
-is_406 = record { digits = codes "406"; reason = codes "Not Acceptable"; phrase = refl; three = refl; are_digits = refl; plain_digits = refl; value = refl; reason_value = refl; plain_reason = refl; final = refl; bodiless = false; has_none = refl; unwritten = refl }
+abbrev is_406 : IsStatus 406
+is_406 = record { digits = codes "406"; reason = codes "Not Acceptable"; phrase = refl; three = refl; are_digits = refl; plain_digits = refl; value = refl; reason_value = refl; plain_reason = refl; is_last = refl; bodiless = false; has_none = refl; unwritten = refl }
 
-is_412 : IsStatus 412
-is_412 = record { digits = codes "412"; reason = codes "Precondition Failed"; phrase = refl; three = refl; are_digits = refl; plain_digits = refl; value = refl; reason_value = refl; plain_reason = refl; final = refl; bodiless = false; has_none = refl; unwritten = refl }
+abbrev is_412 : IsStatus 412
+is_412 = record { digits = codes "412"; reason = codes "Precondition Failed"; phrase = refl; three = refl; are_digits = refl; plain_digits = refl; value = refl; reason_value = refl; plain_reason = refl; is_last = refl; bodiless = false; has_none = refl; unwritten = refl }
 
-is_413 : IsStatus 413
-is_413 = record { digits = codes "413"; reason = codes "Content Too Large"; phrase = refl; three = refl; are_digits = refl; plain_digits = refl; value = refl; reason_value = refl; plain_reason = refl; final = refl; bodiless = false; has_none = refl; unwritten = refl }
+abbrev is_413 : IsStatus 413
+is_413 = record { digits = codes "413"; reason = codes "Content Too Large"; phrase = refl; three = refl; are_digits = refl; plain_digits = refl; value = refl; reason_value = refl; plain_reason = refl; is_last = refl; bodiless = false; has_none = refl; unwritten = refl }
 
-is_415 : IsStatus 415
-is_415 = record { digits = codes "415"; reason = codes "Unsupported Media Type"; phrase = refl; three = refl; are_digits = refl; plain_digits = refl; value = refl; reason_value = refl; plain_reason = refl; final = refl; bodiless = false; has_none = refl; unwritten = refl }
+abbrev is_415 : IsStatus 415
+is_415 = record { digits = codes "415"; reason = codes "Unsupported Media Type"; phrase = refl; three = refl; are_digits = refl; plain_digits = refl; value = refl; reason_value = refl; plain_reason = refl; is_last = refl; bodiless = false; has_none = refl; unwritten = refl }
 
-is_500 : IsStatus 500
-is_500 = record { digits = codes "500"; reason = codes "Internal Server Error"; phrase = refl; three = refl; are_digits = refl; plain_digits = refl; value = refl; reason_value = refl; plain_reason = refl; final = refl; bodiless = false; has_none = refl; unwritten = refl }
+abbrev is_500 : IsStatus 500
+is_500 = record { digits = codes "500"; reason = codes "Internal Server Error"; phrase = refl; three = refl; are_digits = refl; plain_digits = refl; value = refl; reason_value = refl; plain_reason = refl; is_last = refl; bodiless = false; has_none = refl; unwritten = refl }
 
-is_503 : IsStatus 503
-is_503 = record { digits = codes "503"; reason = codes "Service Unavailable"; phrase = refl; three = refl; are_digits = refl; plain_digits = refl; value = refl; reason_value = refl; plain_reason = refl; final = refl; bodiless = false; has_none = refl; unwritten = refl }
+abbrev is_503 : IsStatus 503
+is_503 = record { digits = codes "503"; reason = codes "Service Unavailable"; phrase = refl; three = refl; are_digits = refl; plain_digits = refl; value = refl; reason_value = refl; plain_reason = refl; is_last = refl; bodiless = false; has_none = refl; unwritten = refl }
 
-is_507 : IsStatus 507
-is_507 = record { digits = codes "507"; reason = codes "Insufficient Storage"; phrase = refl; three = refl; are_digits = refl; plain_digits = refl; value = refl; reason_value = refl; plain_reason = refl; final = refl; bodiless = false; has_none = refl; unwritten = refl }
+abbrev is_507 : IsStatus 507
+is_507 = record { digits = codes "507"; reason = codes "Insufficient Storage"; phrase = refl; three = refl; are_digits = refl; plain_digits = refl; value = refl; reason_value = refl; plain_reason = refl; is_last = refl; bodiless = false; has_none = refl; unwritten = refl }
 
 -- the status of an outcome, and where its reply has no body it has no payload
 pub record HasStatus (o : Outcome) (n : ℕ) : Type 0 where
@@ -335,10 +329,10 @@ module _ (o : Outcome) (closes : Bool) (n : ℕ) (known : HasStatus o n) (versio
 
 pub read : RepliesAreReadBack
 read o closes n bytes status is version short =
-    either o closes n (has_status o n status) version (nat_le (length (http_reply (head_of n closes (location_of o) o))) longest_reply_head) bytes (some_bytes (written status is)) short
+    either o closes n (has_status o n status) version (nat_le (length (http_reply (head_of n closes (location_of o) o))) longest_reply_head) bytes (some_bytes (head_with closes o n ++ payload_of o) (written status is)) short
   where
-    some_bytes : {x : List ℕ} → Some x ≡ Some bytes → x ≡ bytes
-    some_bytes e = cc
+    some_bytes : (x : List ℕ) → Some x ≡ Some bytes → x ≡ bytes
+    some_bytes x e = cc
 
     written : (answer_of o).status ≡ Some n → reply false closes o ≡ Some bytes → Some (head_with closes o n ++ payload_of o) ≡ Some bytes
     written at e = sym (ap (λ (s : Option ℕ). option_map (λ head. head ++ payload_of o) (option_map (head_with closes o) s)) at) ∙ e

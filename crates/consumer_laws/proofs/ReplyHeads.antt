@@ -14,10 +14,10 @@ use Rattle.http_fields.specs.declared.framing.Framing.{Framing}
 use Rattle.http_fields.specs.declared.framing.Framing.TheVariants as framing
 use Rattle.http_fields.specs.Bodies.{longest_reply}
 use Rattle.http_fields.specs.Fields.{Standing, absent, once, standing, values_of, Said, said_by}
-use Rattle.http_fields.specs.Framings.{stated_framing}
+use Rattle.http_fields.specs.Framings.{stated_framing, framing_by}
 use Rattle.http_fields.specs.Marks.{line_feeds}
 use Rattle.http_replies.specs.declared.reply_heads.ReplyHead.{ReplyHead}
-use Rattle.http_replies.specs.ReplyFronts.{IsReplyHead, IsReplyJudged, one_head, is_interim, is_bodiless, some_framing, reply_framing, with_status, said_in_reply, judged_reply}
+use Rattle.http_replies.specs.ReplyFronts.{IsReplyHead, IsReplyJudged, one_head, is_interim, is_bodiless, no_framing, some_framing, are_absent, reply_framing, with_status, said_in_reply, judged_reply}
 use Rattle.http_replies.specs.Writing.{entity_tag, PlainReply, phrase_of, phrase_text, field_line, written_length, closing, http_reply}
 use Rattle.http_replies.proofs.ReplyLines.{from_close, from_length, from_allow, from_location, from_tag, from_type, by_lines}
 use Rattle.consumer_laws.proofs.HeadLines.{IsPlain, IsLine, AreLines, printed, feeds_of_lines}
@@ -125,7 +125,7 @@ pub record IsStatus (n : ℕ) : Type 0 where
   pub value : digits_value 10 digits ≡ n
   pub reason_value : list_all is_value_byte reason ≡ true
   pub plain_reason : list_all plain reason ≡ true
-  pub final : is_interim n ≡ false
+  pub is_last : is_interim n ≡ false
   pub bodiless : Bool
   pub has_none : is_bodiless n ≡ bodiless
   pub unwritten : ((n == 100) || (n == 204) || (n == 304)) ≡ bodiless
@@ -261,14 +261,17 @@ module _ (r : PlainReply) (status : IsStatus r.status) (texts : HasTexts r) wher
   close_under name true isnt = rw isnt refl
   close_under name false isnt = refl
 
-  length_under : (o : Option ℕ) (close : Bool) → standing (read_under (codes "content-length") (line_if (codes "Content-Length") (option_map decimal o) ++ line_if (codes "Connection") (closing close)))
-      ≡ (elim o as (λ _. Standing) [ None ↦ absent | Some n ↦ once (trim_ows (32 ∷ decimal n)) ])
+  abbrev length_field : Option ℕ → Standing
+  length_field None = absent
+  length_field (Some n) = once (trim_ows (32 ∷ decimal n))
+
+  length_under : (o : Option ℕ) (close : Bool) → standing (read_under (codes "content-length") (line_if (codes "Content-Length") (option_map decimal o) ++ line_if (codes "Connection") (closing close))) ≡ length_field o
   length_under None true = refl
   length_under None false = refl
   length_under (Some n) true = refl
   length_under (Some n) false = refl
 
-  length_is : (said_in_reply response).content_length ≡ (elim written_length r as (λ _. Standing) [ None ↦ absent | Some n ↦ once (trim_ows (32 ∷ decimal n)) ])
+  length_is : (said_in_reply response).content_length ≡ length_field (written_length r)
   length_is =
       ap standing (other_line (codes "content-length") (codes "Content-Type") r.content_type (tag_lines r) refl
       ∙ other_line (codes "content-length") (codes "ETag") (option_map entity_tag r.etag) (location_lines r) refl
@@ -286,27 +289,31 @@ module _ (r : PlainReply) (status : IsStatus r.status) (texts : HasTexts r) wher
       ∙ close_under (codes "transfer-encoding") r.close refl)
 
   module _ (n : ℕ) (size : r.size ≡ Some n) (none : status.bodiless ≡ true → n ≡ 0) where
-    framed_by : (b w : Bool) → is_bodiless r.status ≡ b → w ≡ b → (b ≡ true → n ≡ 0)
-        → reply_framing r.status true (elim (if w then None else r.size) as (λ _. Standing) [ None ↦ absent | Some k ↦ once (trim_ows (32 ∷ decimal k)) ]) absent ≡ Ok (Some (framing.Stated n))
-    framed_by true true is same zero = rw is (ap (λ (k : ℕ). Ok (Some (framing.Stated k))) (sym (zero refl)))
-    framed_by false false is same zero =
-        rw is (rw size (ap some_framing (ap (stated_framing longest_reply) (behind_blank (decimal n) ∙ sized.trimmed) ∙ stated longest_reply n sized fits)))
+    abbrev framing_in : Bool → Standing → Standing → Result (Option Framing) ℕ
+    framing_in b lengths codings =
+        if b then no_framing (framing_by longest_reply true lengths codings)
+        else if are_absent lengths codings then Ok None
+        else some_framing (framing_by longest_reply true lengths codings)
+
+    framed_by : (b w : Bool) → w ≡ b → (b ≡ true → n ≡ 0) → framing_in b (length_field (if w then None else r.size)) absent ≡ Ok (Some (framing.Stated n))
+    framed_by true true same zero = ap (λ (k : ℕ). Ok (Some (framing.Stated k))) (sym (zero refl))
+    framed_by false false same zero =
+        ap (λ (o : Option ℕ). framing_in false (length_field o) absent) size
+        ∙ ap some_framing (ap (stated_framing longest_reply) (behind_blank (decimal n) ∙ sized.trimmed) ∙ stated longest_reply n sized fits)
       where
         fits : n ≤ longest_reply
         fits = subst (λ (o : Option ℕ). IfSome o (λ k. k ≤ longest_reply)) size texts.size
 
         sized : IsSize n
         sized = is_size n (omega (arith, fits))
-    framed_by true false is same zero = absurd cc
-    framed_by false true is same zero = absurd cc
+    framed_by true false same zero = absurd cc
+    framed_by false true same zero = absurd cc
 
     framed : reply_framing r.status true (said_in_reply response).content_length (said_in_reply response).transfer_encoding ≡ Ok (Some (framing.Stated n))
     framed =
         ap₂ (λ (x y : Standing). reply_framing r.status true x y) length_is coding_is
-        ∙ framed_by status.bodiless ((r.status == 100) || (r.status == 204) || (r.status == 304)) status.has_none status.unwritten none
-
-    abbrev pub read_head : ReplyHead
-    read_head = record { status = r.status; framing = Some (framing.Stated n) }
+        ∙ ap (λ (b : Bool). framing_in b (length_field (written_length r)) absent) status.has_none
+        ∙ framed_by status.bodiless ((r.status == 100) || (r.status == 204) || (r.status == 304)) status.unwritten none
 
     judged_is : judged_reply response ≡ Ok (record { status = r.status; framing = Some (framing.Stated n) })
     judged_is =

@@ -10,7 +10,7 @@ use Rattle.std.proofs.lemmas.List.{length-append}
 use Rattle.std.proofs.lemmas.List.Elements.{All-from_recursion}
 use Rattle.std.proofs.lemmas.Str.{IsUtf8-from_ascii}
 use Rattle.std.proofs.lemmas.Str.Ascii.{IsAscii-from_all}
-use Rattle.httparse.specs.Grammar.{is_token_byte, is_uri_byte, is_value_byte, IsToken, IsField, crlf, trim_ows, print_request, RequestHead, IsRequestHead}
+use Rattle.httparse.specs.Grammar.{is_token_byte, is_uri_byte, is_value_byte, IsToken, IsField, crlf, trim_ows, print_section, print_request, RequestHead, IsRequestHead}
 use Rattle.httparse.specs.Spans.{name_and_value}
 use Rattle.http_fields.specs.declared.framing.Framing.{Framing}
 use Rattle.http_fields.specs.declared.framing.Framing.TheVariants as framing
@@ -26,7 +26,7 @@ use Rattle.wot_consumer.specs.declared.chosen.Chosen.{Chosen}
 use Rattle.wot_consumer.specs.Messages.{path_text, host_and_port, request_line, field, body_fields, request_bytes}
 use Rattle.consumer_laws.specs.Asking.{IsVisible, CanBeSent, format_for}
 use Rattle.consumer_laws.proofs.HeadLines.{IsPlain, IsLine, AreLines, printed}
-use Rattle.consumer_laws.proofs.HeadBytes.{both_all, weaker, is_plain, plain_bytes, digits_pass, fields, line_of, lines_all, token, IsGood, good, good_all, good_fields, one_line, section_is, IsSize, is_size, digit_is_plain, digit_is_value, visible_is_plain, visible_value}
+use Rattle.consumer_laws.proofs.HeadBytes.{both_all, weaker, plain, is_plain, plain_bytes, digits_pass, fields, line_of, lines_all, token, IsGood, good, good_all, good_fields, one_line, section_is, IsSize, is_size, digit_is_plain, digit_is_value, visible_is_plain, visible_value}
 use Rattle.consumer_laws.proofs.Targets.{target_is_visible, some_target}
 
 -- ---- the head as lines
@@ -65,7 +65,7 @@ http_head c input = record {
 pub head_is : (c : Chosen) (input : Option (List ℕ)) → print_request (http_head c input) ≡ printed (head_lines c input)
 unfolding print_request
 head_is c input =
-    append_assoc (start_line c) (13 ∷ 10 ∷ []) _
+    append_assoc (start_line c) (13 ∷ 10 ∷ []) (print_section (fields (lines_for c input)) crlf)
     ∙ ap (λ (x : List ℕ). start_line c ++ 13 ∷ 10 ∷ x) (section_is (lines_for c input))
 
 -- ---- the bytes of the request are these lines, and the body
@@ -161,7 +161,7 @@ asks_nothing c (Some body) = refl
 
 -- ---- each is a line
 
-plain_method : (v : Verb) → v ≢ verb.Other → (list_all (λ b. not (b == 13) && not (b == 10)) (verb_name v) ≡ true) × (0 < length (verb_name v))
+plain_method : (v : Verb) → v ≢ verb.Other → (list_all plain (verb_name v) ≡ true) × (0 < length (verb_name v))
 plain_method verb.Get isnt = (refl, omega arith)
 plain_method verb.Head isnt = (refl, omega arith)
 plain_method verb.Put isnt = (refl, omega arith)
@@ -185,7 +185,7 @@ start_is_line c isnt =
 
 -- what is behind a name
 size_of : (n : ℕ) → n < 2 ^ 64 → AllByRecursion IsPlain (decimal n)
-size_of n fits = plain_bytes (decimal n) (digits_pass _ (decimal n) digit_is_plain (is_size n fits).digits)
+size_of n fits = plain_bytes (decimal n) (digits_pass plain (decimal n) digit_is_plain (is_size n fits).digits)
 
 module _ (c : Chosen) (host : AllByRecursion IsVisible c.host) (port : c.port < 2 ^ 16) where
   port_fits : c.port < 2 ^ 64

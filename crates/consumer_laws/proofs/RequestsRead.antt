@@ -85,13 +85,7 @@ parted n fits = omega (arith, fits)
 -- ---- a request that can be sent
 
 module _ (c : Chosen) (input : Option (List ℕ)) (can : CanBeSent c input) (known : c.verb ≢ verb.Other) (path_isnt : c.path ≢ [] ∷ []) where
-  body : List ℕ
-  body = unwrap_or input []
-
-  head : List ℕ
-  head = printed (head_lines c input)
-
-  framed_head : FramedHead
+  abbrev framed_head : FramedHead
   framed_head = record { head = http_head c input; framing = framing.Stated (length (unwrap_or input [])) }
 
   said : Says input (said_by (lines_of (http_head c input)))
@@ -143,12 +137,6 @@ module _ (c : Chosen) (input : Option (List ℕ)) (can : CanBeSent c input) (kno
       omega (arith, can.head, same, sum)
 
   module _ (behind : List ℕ) where
-    stream : List ℕ
-    stream = printed (head_lines c input) ++ (unwrap_or input [] ++ behind)
-
-    front : Front
-    front = with_head (0 + length (printed (head_lines c input))) (Ok framed_head) (unwrap_or input [] ++ behind)
-
     ends : length_through empty_line (take longest_head (printed (head_lines c input) ++ (unwrap_or input [] ++ behind))) ≡ Some (length (printed (head_lines c input)))
     ends =
         ap (λ (n : ℕ). length_through empty_line (take n (printed (head_lines c input) ++ (unwrap_or input [] ++ behind)))) (parted (length (printed (head_lines c input))) head_fits)

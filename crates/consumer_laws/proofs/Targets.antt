@@ -1,7 +1,7 @@
 -- The target of a request has the path that was chosen, and no query.
-use Rattle.std.proofs.Common.{◌≡◌, ◌≢◌, ◌<◌, ◌≤◌, ◌+◌, ◌/◌, ◌%◌, ℕ, suc, Bool, true, false, List, [], ◌∷◌, ◌++◌, length, map, drop, Some, refl, ap, ap₂, ◌∙◌, sym, arith, append_assoc, le-leb, inl, inr}
-use Rattle.std.specs.Prelude.{◌==◌, nat_lt, codes, if◌then◌else◌}
-use Rattle.std.specs.List.{AllByRecursion, flat_map, position_or_len}
+use Rattle.std.proofs.Common.{◌≡◌, ◌≢◌, ◌<◌, ◌≤◌, ◌+◌, ◌/◌, ◌%◌, ℕ, Bool, true, false, List, [], ◌∷◌, ◌++◌, length, map, drop, Some, refl, ap, ap₂, ◌∙◌, sym, arith, append_assoc, le-leb, inl, inr}
+use Rattle.std.specs.Prelude.{nat_lt, if◌then◌else◌}
+use Rattle.std.specs.List.{AllByRecursion}
 use Rattle.std.specs.Fmt.{digit_glyph}
 use Rattle.std.proofs.lemmas.Bool.{cases_lt, lt-leb, ne_eqb}
 use Rattle.std.proofs.lemmas.Bool.Decides.{nat_tests}
@@ -12,10 +12,10 @@ use Rattle.http_wire.specs.Targets.{segments_of, query_place}
 use Rattle.http_wire.specs.Reading.{query_of}
 use Rattle.wot_consumer.specs.Messages.{segments_text, path_text}
 use Rattle.description_laws.specs.Encoding.{AreBytes}
-use Rattle.description_laws.proofs.EncodedBytes.{IsInside, encoded_is_inside, undone}
-use Rattle.description_laws.proofs.Targets.{slashed, AreParts, target_read}
+use Rattle.description_laws.proofs.EncodedBytes.{encoded_is_inside, undone}
+use Rattle.description_laws.proofs.Targets.{slashed, AreParts, HasNoMark, slashed_has_none, no_mark, target_read}
 use Rattle.consumer_laws.specs.Asking.{IsVisible}
-use Rattle.consumer_laws.proofs.HeadBytes.{both_all, weaker}
+use Rattle.consumer_laws.proofs.HeadBytes.{both_all}
 
 -- ---- its bytes can be seen
 
@@ -130,27 +130,6 @@ path_is_read (segment ∷ path) are isnt =
 
 -- ---- no query
 
-abbrev HasNoMark : List ℕ → Type 0
-HasNoMark bytes = AllByRecursion (λ b. b ≢ 63) bytes
-
-segments_have_none : (path : List (List ℕ)) → HasNoMark (segments_text path)
-segments_have_none [] = tt
-segments_have_none (segment ∷ path) =
-    both_all (λ b. b ≢ 63) (47 ∷ encoded segment) (segments_text path) (omega arith, weaker IsInside (λ b. b ≢ 63) (encoded segment) (λ b is. is.1) (encoded_is_inside segment)) (segments_have_none path)
-
-no_mark : (bytes : List ℕ) → HasNoMark bytes → position_or_len (λ b. b == 63) bytes ≡ length bytes
-no_mark [] none = refl
-no_mark (b ∷ bytes) none = rw isnt (one_more (position_or_len (λ x. x == 63) bytes) (length bytes) (no_mark bytes none.1))
-  where
-    other : b ≢ 63
-    other = none.0
-
-    isnt : (b == 63) ≡ false
-    isnt = grind (arith, nat_tests)
-
-    one_more : (m n : ℕ) → m ≡ n → 1 + m ≡ suc n
-    one_more m n e = omega (arith, e)
-
 no_query : (target : List ℕ) → HasNoMark target → query_of target ≡ []
 no_query target none =
     ap (λ (n : ℕ). drop (if nat_lt n (length target) then n + 1 else length target) target) (no_mark target none) ∙ at_end
@@ -163,4 +142,5 @@ no_query target none =
 
 pub has_no_query : (path : List (List ℕ)) → query_of (path_text path) ≡ []
 has_no_query [] = refl
-has_no_query (segment ∷ path) = no_query (segments_text (segment ∷ path)) (segments_have_none (segment ∷ path))
+has_no_query (segment ∷ path) =
+    ap query_of (slashed_is (segment ∷ path)) ∙ no_query (slashed (map encoded (segment ∷ path))) (slashed_has_none (map encoded (segment ∷ path)) (are_parts (segment ∷ path)))

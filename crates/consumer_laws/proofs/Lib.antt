@@ -9,3 +9,4 @@ mod Choices
 mod WhatWasChosen
 mod ReplyHeads
 mod RepliesRead
+mod Outputs

@@ -1,6 +1,7 @@
 //! Laws on a consumer and a servient.
 
 ghost use Rattle.consumer_laws.specs.Choosing.{RequestsAreWhatWasChosen};
+ghost use Rattle.consumer_laws.specs.Outputs.{OutputsAreTaken};
 ghost use Rattle.consumer_laws.specs.Replying.{RepliesAreReadBack};
 
 /// What is chosen of a derived description over HTTP is the act of its operation: at its path its verb is taken and is
@@ -17,4 +18,11 @@ pub fn requests_are_what_was_chosen()
 /// payload, whether its connection stays or ends.
 pub fn replies_are_read_back()
     ensures { RepliesAreReadBack }
+{}
+
+/// Each value that a derived Thing takes from a device for an operation, and an object of such values of its properties,
+/// is accepted by `judge_output`, by the same description; and its text is read as that value, where it nests at most 64
+/// deep.
+pub fn outputs_are_taken()
+    ensures { OutputsAreTaken }
 {}

@@ -29,8 +29,7 @@ use Rattle.thing_site.specs.declared.place.ThingAct.TheVariants as act
 use Rattle.thing_site.specs.Site.{Placed, ExposedThing, Site, Slots, placed, exposed, affordance_named, is_kind}
 use Rattle.http_wire.specs.Targets.{segments_of}
 use Rattle.wot_consumer.specs.declared.chosen.Chosen.{Chosen}
-use Rattle.wot_consumer.specs.declared.wanted.SoughtForm.{SoughtForm}
-use Rattle.wot_consumer.specs.Choice.{Qualifies, IsPassedOver, IsFirst, IsChosen, base_of, wanted}
+use Rattle.wot_consumer.specs.Choice.{Qualifies, IsFirst, IsChosen, base_of, wanted}
 use Rattle.wot_consumer.specs.Operations.{is_consumed, kind_of, default_verb, verb_of}
 use Rattle.wot_consumer.specs.Places.{scheme_named, segments_of as url_segments}
 use Rattle.description_laws.specs.Encoding.{AreBytes}
@@ -42,10 +41,11 @@ use Rattle.consumer_laws.proofs.GeneratedForms.{IsPlainForm, affordance_plain, r
 
 -- ---- what all hold, one holds
 
-first_holds : (w : SoughtForm) (base : Option (List ℕ)) (P : Form → Type 0) (forms : List Form) (c : Chosen) → AllByRecursion P forms → IsFirst w base forms (Some c) → (f : Form) × P f × Qualifies w base f c
-first_holds w base P [] c all is = absurd is
-first_holds w base P (f ∷ fs) c all (inl is) = (f, all.0, is)
-first_holds w base P (f ∷ fs) c all (inr is) = first_holds w base P fs c all.1 is.1
+first_holds : (o : Op) (only : Option Scheme) (base : Option (List ℕ)) (P : Form → Type 0) (forms : List Form) (c : Chosen) → AllByRecursion P forms → IsFirst (wanted o only) base forms (Some c)
+    → (f : Form) × P f × Qualifies (wanted o only) base f c
+first_holds o only base P [] c all is = absurd is
+first_holds o only base P (f ∷ fs) c all (inl is) = (f, all.0, is)
+first_holds o only base P (f ∷ fs) c all (inr is) = first_holds o only base P fs c all.1 is.1
 
 contained_holds : (P : Op → Type 0) (os : List Op) (o : Op) → AllByRecursion P os → Contains os o → P o
 contained_holds P os o all (k, within, is) = at os k all within is
@@ -139,7 +139,7 @@ module _ (bases : Bases) (site : Site) (asked : Op → Option (Verb × ThingAct)
   pub at_path_of : (forms : List Form) → AllByRecursion (λ (f : Form). LeadsBy f) forms → AllByRecursion (IsPlainForm bases) forms → AllByRecursion (λ (f : Form). ReadsBy f) forms
       → IsFirst (wanted o only) base forms (Some c) → IsAtPath site asked o c
   at_path_of forms lead plain read first =
-      let one = first_holds (wanted o only) base (λ (f : Form). LeadsBy f × (IsPlainForm bases f × ReadsBy f)) forms c (all_three LeadsBy (IsPlainForm bases) ReadsBy forms lead plain read) first in
+      let one = first_holds o only base (λ (f : Form). LeadsBy f × (IsPlainForm bases f × ReadsBy f)) forms c (all_three LeadsBy (IsPlainForm bases) ReadsBy forms lead plain read) first in
       at_form one.0 one.1.0 one.1.1.0 one.1.1.1 one.2
 
 -- ---- the act

@@ -15,12 +15,11 @@ use Rattle.wot_terms.specs.declared.op.Op.TheVariants as op
 use Rattle.wot_terms.specs.Faults.{holder}
 use Rattle.wot_terms.specs.Affordances.{part, flag_of}
 use Rattle.wot_forms.specs.declared.bases.Bases.{Bases}
-use Rattle.wot_forms.specs.declared.bases.Protocol.{Protocol}
-use Rattle.wot_forms.specs.declared.bases.Protocol.TheVariants.{Http, Coap}
 use Rattle.wot_forms.specs.declared.form.Form.{Form}
 use Rattle.wot_forms.specs.Forms.{default_ops, form_of, list_forms, forms_under, affordance_forms, forms_in}
-use Rattle.wot_forms.specs.Generated.{base_of, form, plain_form, holder_path, affordance_path, observe_form, subscribe_form, protocol_forms, generated_forms, root_ops, generated_root_forms, is_coap_segment, property_ops, with_forms, generated}
+use Rattle.wot_forms.specs.Generated.{form, plain_form, holder_path, affordance_path, generated_forms, root_ops, generated_root_forms, is_coap_segment, property_ops, with_forms, generated}
 use Rattle.wot_forms.proofs.FormLists.{forms_in_list}
+use Rattle.description_laws.specs.Leading.{Binding, Http, Coap, base_by}
 use Rattle.description_laws.proofs.EncodedBytes.{encoded_is_inside}
 use Rattle.description_laws.proofs.Targets.{slashed, AreParts}
 use Rattle.description_laws.proofs.Paths.{url_of, url_is}
@@ -49,19 +48,19 @@ holder_inside kind.Action = (encoded_is_inside (codes "actions"), tt)
 holder_inside kind.Event = (encoded_is_inside (codes "events"), tt)
 
 module _ (bases : Bases) (segment : List ℕ) where
-  at_base : (p : Protocol) (href : List ℕ) (parts : List (List ℕ)) → href ≡ base_of bases p ++ slashed parts → (href ≡ bases.http ++ slashed parts) ⊎ (href ≡ bases.coap ++ slashed parts)
+  at_base : (b : Binding) (href : List ℕ) (parts : List (List ℕ)) → href ≡ base_by b bases ++ slashed parts → (href ≡ bases.http ++ slashed parts) ⊎ (href ≡ bases.coap ++ slashed parts)
   at_base Http href parts is = inl is
   at_base Coap href parts is = inr is
 
-  plain : (p : Protocol) (defaults : List Op) (href : List ℕ) (ops : List Op) (sub : Option (List ℕ)) (k : Kind) (more : List (List ℕ)) → AreParts more
-      → href ≡ url_of (base_of bases p) (encoded segment ∷ holder k ∷ more) → IsPlainForm bases (form_of defaults (form href ops sub))
-  plain p defaults href ops sub k more are is = record {
+  plain : (b : Binding) (defaults : List Op) (href : List ℕ) (ops : List Op) (sub : Option (List ℕ)) (k : Kind) (more : List (List ℕ)) → AreParts more
+      → href ≡ url_of (base_by b bases) (encoded segment ∷ holder k ∷ more) → IsPlainForm bases (form_of defaults (form href ops sub))
+  plain b defaults href ops sub k more are is = record {
     method = no_method defaults href ops sub;
     first = encoded segment;
     second = holder k;
     more = more;
     parts = (encoded_is_inside segment, ((holder_inside k).0, are));
-    at = at_base p href (encoded segment ∷ holder k ∷ more) (is ∙ url_is (base_of bases p) (encoded segment ∷ holder k ∷ more));
+    at = at_base b href (encoded segment ∷ holder k ∷ more) (is ∙ url_is (base_by b bases) (encoded segment ∷ holder k ∷ more));
   }
 
   abbrev ArePlain : List Op → List Json → Type 0
@@ -71,14 +70,14 @@ module _ (bases : Bases) (segment : List ℕ) where
   both_plain defaults [] ys one other = other
   both_plain defaults (x ∷ xs) ys one other = (one.0, both_plain defaults xs ys one.1 other)
 
-  only_where : (defaults : List Op) (b : Bool) (forms : List Json) → ArePlain defaults forms → ArePlain defaults (if b then forms else [])
+  only_where : (defaults : List Op) (t : Bool) (forms : List Json) → ArePlain defaults forms → ArePlain defaults (if t then forms else [])
   only_where defaults true forms all = all
   only_where defaults false forms all = tt
 
-  plain_ops : (p : Protocol) (defaults : List Op) (href : List ℕ) (ops : List Op) (k : Kind) (more : List (List ℕ)) → AreParts more
-      → href ≡ url_of (base_of bases p) (encoded segment ∷ holder k ∷ more) → ArePlain defaults (plain_form href ops)
-  plain_ops p defaults href [] k more are is = tt
-  plain_ops p defaults href (o ∷ ops) k more are is = (plain p defaults href (o ∷ ops) None k more are is, tt)
+  plain_ops : (b : Binding) (defaults : List Op) (href : List ℕ) (ops : List Op) (k : Kind) (more : List (List ℕ)) → AreParts more
+      → href ≡ url_of (base_by b bases) (encoded segment ∷ holder k ∷ more) → ArePlain defaults (plain_form href ops)
+  plain_ops b defaults href [] k more are is = tt
+  plain_ops b defaults href (o ∷ ops) k more are is = (plain b defaults href (o ∷ ops) None k more are is, tt)
 
   module _ (name : List ℕ) (defaults : List Op) where
     named : AreParts (encoded name ∷ [])
@@ -87,33 +86,57 @@ module _ (bases : Bases) (segment : List ℕ) where
     longer : (url word : List ℕ) → url ++ (47 ∷ word) ≡ url ++ codes "/" ++ word
     longer url word = sym (append_assoc url (codes "/") word)
 
-    observed : (p : Protocol) → IsPlainForm bases (form_of defaults (observe_form p (affordance_path (base_of bases p) segment kind.Property name)))
+    -- what the path and the subprotocol of a form that brings values are
+    abbrev observe_of : Binding → List ℕ
+    observe_of Http = codes "/observe"
+    observe_of Coap = []
+
+    abbrev subscribe_of : Binding → List ℕ
+    subscribe_of Http = codes "/subscribe"
+    subscribe_of Coap = []
+
+    abbrev subprotocol_by : Binding → List ℕ
+    subprotocol_by Http = codes "longpoll"
+    subprotocol_by Coap = codes "cov:observe"
+
+    abbrev path_by : Binding → Kind → List ℕ
+    path_by b k = affordance_path (base_by b bases) segment k name
+
+    observed : (b : Binding) → IsPlainForm bases (form_of defaults (form (path_by b kind.Property ++ observe_of b) (op.ObserveProperty ∷ op.UnobserveProperty ∷ []) (Some (subprotocol_by b))))
     observed Http =
-        plain Http defaults (affordance_path bases.http segment kind.Property name ++ codes "/observe") (op.ObserveProperty ∷ op.UnobserveProperty ∷ []) (Some (codes "longpoll")) kind.Property (encoded name ∷ codes "observe" ∷ []) (encoded_is_inside name, (encoded_is_inside (codes "observe"), tt))
-        (longer (affordance_path bases.http segment kind.Property name) (codes "observe"))
+        plain Http defaults (path_by Http kind.Property ++ codes "/observe") (op.ObserveProperty ∷ op.UnobserveProperty ∷ []) (Some (codes "longpoll")) kind.Property (encoded name ∷ codes "observe" ∷ [])
+        (encoded_is_inside name, (encoded_is_inside (codes "observe"), tt)) (longer (path_by Http kind.Property) (codes "observe"))
     observed Coap =
-        plain Coap defaults (affordance_path bases.coap segment kind.Property name ++ []) (op.ObserveProperty ∷ op.UnobserveProperty ∷ []) (Some (codes "cov:observe")) kind.Property (encoded name ∷ []) named (append-nil (affordance_path bases.coap segment kind.Property name))
+        plain Coap defaults (path_by Coap kind.Property ++ []) (op.ObserveProperty ∷ op.UnobserveProperty ∷ []) (Some (codes "cov:observe")) kind.Property (encoded name ∷ []) named (append-nil (path_by Coap kind.Property))
 
-    subscribed : (p : Protocol) → IsPlainForm bases (form_of defaults (subscribe_form p (affordance_path (base_of bases p) segment kind.Event name)))
+    subscribed : (b : Binding) → IsPlainForm bases (form_of defaults (form (path_by b kind.Event ++ subscribe_of b) (op.SubscribeEvent ∷ op.UnsubscribeEvent ∷ []) (Some (subprotocol_by b))))
     subscribed Http =
-        plain Http defaults (affordance_path bases.http segment kind.Event name ++ codes "/subscribe") (op.SubscribeEvent ∷ op.UnsubscribeEvent ∷ []) (Some (codes "longpoll")) kind.Event (encoded name ∷ codes "subscribe" ∷ []) (encoded_is_inside name, (encoded_is_inside (codes "subscribe"), tt))
-        (longer (affordance_path bases.http segment kind.Event name) (codes "subscribe"))
+        plain Http defaults (path_by Http kind.Event ++ codes "/subscribe") (op.SubscribeEvent ∷ op.UnsubscribeEvent ∷ []) (Some (codes "longpoll")) kind.Event (encoded name ∷ codes "subscribe" ∷ [])
+        (encoded_is_inside name, (encoded_is_inside (codes "subscribe"), tt)) (longer (path_by Http kind.Event) (codes "subscribe"))
     subscribed Coap =
-        plain Coap defaults (affordance_path bases.coap segment kind.Event name ++ []) (op.SubscribeEvent ∷ op.UnsubscribeEvent ∷ []) (Some (codes "cov:observe")) kind.Event (encoded name ∷ []) named (append-nil (affordance_path bases.coap segment kind.Event name))
+        plain Coap defaults (path_by Coap kind.Event ++ []) (op.SubscribeEvent ∷ op.UnsubscribeEvent ∷ []) (Some (codes "cov:observe")) kind.Event (encoded name ∷ []) named (append-nil (path_by Coap kind.Event))
 
-    by_protocol : (p : Protocol) (k : Kind) (v : Json) → ArePlain defaults (protocol_forms p k v (affordance_path (base_of bases p) segment k name))
-    by_protocol p kind.Property v =
-        both_plain defaults (plain_form (affordance_path (base_of bases p) segment kind.Property name) (property_ops v)) _
-        (plain_ops p defaults (affordance_path (base_of bases p) segment kind.Property name) (property_ops v) kind.Property (encoded name ∷ []) named refl)
-        (only_where defaults (flag_of (codes "observable") v) (observe_form p (affordance_path (base_of bases p) segment kind.Property name) ∷ []) (observed p, tt))
-    by_protocol p kind.Action v =
-        (plain p defaults (affordance_path (base_of bases p) segment kind.Action name) (default_ops kind.Action false false) None kind.Action (encoded name ∷ []) named refl, tt)
-    by_protocol p kind.Event v = (subscribed p, tt)
+    abbrev property_forms : Binding → Json → List Json
+    property_forms b v =
+        plain_form (path_by b kind.Property) (property_ops v)
+        ++ (if flag_of (codes "observable") v then form (path_by b kind.Property ++ observe_of b) (op.ObserveProperty ∷ op.UnobserveProperty ∷ []) (Some (subprotocol_by b)) ∷ [] else [])
+
+    of_property : (b : Binding) (v : Json) → ArePlain defaults (property_forms b v)
+    of_property b v =
+        both_plain defaults (plain_form (path_by b kind.Property) (property_ops v)) _
+        (plain_ops b defaults (path_by b kind.Property) (property_ops v) kind.Property (encoded name ∷ []) named refl)
+        (only_where defaults (flag_of (codes "observable") v) (form (path_by b kind.Property ++ observe_of b) (op.ObserveProperty ∷ op.UnobserveProperty ∷ []) (Some (subprotocol_by b)) ∷ []) (observed b, tt))
+
+    of_action : (b : Binding) → IsPlainForm bases (form_of defaults (form (path_by b kind.Action) (op.InvokeAction ∷ []) None))
+    of_action b = plain b defaults (path_by b kind.Action) (op.InvokeAction ∷ []) None kind.Action (encoded name ∷ []) named refl
 
     all_plain : (k : Kind) (v : Json) → ArePlain defaults (generated_forms bases segment k name v)
-    all_plain k v =
-        both_plain defaults (protocol_forms Http k v (affordance_path bases.http segment k name)) _ (by_protocol Http k v)
-        (only_where defaults (is_coap_segment name) (protocol_forms Coap k v (affordance_path bases.coap segment k name)) (by_protocol Coap k v))
+    all_plain kind.Property v =
+        both_plain defaults (property_forms Http v) _ (of_property Http v) (only_where defaults (is_coap_segment name) (property_forms Coap v) (of_property Coap v))
+    all_plain kind.Action v =
+        (of_action Http, only_where defaults (is_coap_segment name) (form (path_by Coap kind.Action) (op.InvokeAction ∷ []) None ∷ []) (of_action Coap, tt))
+    all_plain kind.Event v =
+        (subscribed Http, only_where defaults (is_coap_segment name) (form (path_by Coap kind.Event ++ []) (op.SubscribeEvent ∷ op.UnsubscribeEvent ∷ []) (Some (codes "cov:observe")) ∷ []) (subscribed Coap, tt))
 
   -- the operations of its forms that name none
   abbrev own_ops : Kind → Json → List Op

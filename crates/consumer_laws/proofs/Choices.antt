@@ -57,15 +57,15 @@ contained_holds P os o all (k, within, is) = at os k all within is
 
 named_holds : (P : Placed → Type 0) (k : Kind) (name : List ℕ) (ps : List Placed) (p : Placed) → AllByRecursion P ps → affordance_named k name ps ≡ Some p → P p
 named_holds P k name [] p all is = absurd cc
-named_holds P k name (x ∷ ps) p all is = by (is_kind k x.affordance.kind) (bytes_eq name x.affordance.name) is
+named_holds P k name (x ∷ ps) p all is = by (is_kind k x.affordance.kind) (bytes_eq name x.affordance.name) (named_holds P k name ps p all.1) is
   where
     value : Some x ≡ Some p → x ≡ p
     value e = cc
 
-    by : (s t : Bool) → (if s && t then Some x else affordance_named k name ps) ≡ Some p → P p
-    by true true found = subst P (value found) all.0
-    by true false found = named_holds P k name ps p all.1 found
-    by false t found = named_holds P k name ps p all.1 found
+    by : (s t : Bool) → (affordance_named k name ps ≡ Some p → P p) → (if s && t then Some x else affordance_named k name ps) ≡ Some p → P p
+    by true true later found = subst P (value found) all.0
+    by true false later found = later found
+    by false t later found = later found
 
 all_three : (P Q R : Form → Type 0) (fs : List Form) → AllByRecursion P fs → AllByRecursion Q fs → AllByRecursion R fs → AllByRecursion (λ f. P f × (Q f × R f)) fs
 all_three P Q R [] p q r = tt
@@ -146,8 +146,11 @@ module _ (bases : Bases) (site : Site) (asked : Op → Option (Verb × ThingAct)
 
 -- the act of each operation of a consumer
 module _ (site : Site) (thing : ExposedThing) (name : List ℕ) (c : Chosen) where
-  same_asked : (v : Verb) (a : ThingAct) → c.verb ≡ v → Some (v, a) ≡ Some (c.verb, a)
-  same_asked v a is = ap (λ (x : Verb). Some (x, a)) (sym is)
+  abbrev asks : Verb → ThingAct → Option (Verb × ThingAct)
+  asks v a = Some (v, a)
+
+  same_asked : (v : Verb) (a : ThingAct) → c.verb ≡ v → asks v a ≡ asks c.verb a
+  same_asked v a is = ap (λ (x : Verb). asks x a) (sym is)
 
   taken_by : (v : Verb) (a : ThingAct) → c.verb ≡ v → IsTaken site c.path v a → IsTaken site c.path c.verb a
   taken_by v a is taken = subst (λ (x : Verb). IsTaken site c.path x a) (sym is) taken

@@ -154,14 +154,14 @@ module _ (bases : Bases) (segment : List ℕ) where
   -- what is found by its name holds what all hold
   found_holds : (P : Field → Type 0) (name : List ℕ) (ms : List Field) (v : Json) → AllByRecursion P ms → member_named name ms ≡ Some v → P (name, v)
   found_holds P name [] v all is = absurd cc
-  found_holds P name (m ∷ ms) v all is = by (bytes_eq name m.0) refl is
+  found_holds P name (m ∷ ms) v all is = by (bytes_eq name m.0) refl (found_holds P name ms v all.1) is
     where
       value : Some m.1 ≡ Some v → m.1 ≡ v
       value e = cc
 
-      by : (b : Bool) → bytes_eq name m.0 ≡ b → (if b then Some m.1 else member_named name ms) ≡ Some v → P (name, v)
-      by true same found = subst (λ (n : List ℕ). P (n, v)) (sym ((bytes_eq-Decides name m.0).0 same)) (subst (λ (w : Json). P (m.0, w)) (value found) all.0)
-      by false differ found = found_holds P name ms v all.1 found
+      by : (b : Bool) → bytes_eq name m.0 ≡ b → (member_named name ms ≡ Some v → P (name, v)) → (if b then Some m.1 else member_named name ms) ≡ Some v → P (name, v)
+      by true same later found = subst (λ (n : List ℕ). P (n, v)) (sym ((bytes_eq-Decides name m.0).0 same)) (subst (λ (w : Json). P (m.0, w)) (value found) all.0)
+      by false differ later found = later found
 
   module _ (ms : Members) where
     abbrev pub tree : Json

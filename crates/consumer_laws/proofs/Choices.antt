@@ -33,10 +33,10 @@ use Rattle.wot_consumer.specs.Choice.{Qualifies, IsFirst, IsChosen, base_of, wan
 use Rattle.wot_consumer.specs.Operations.{is_consumed, kind_of, default_verb, verb_of}
 use Rattle.wot_consumer.specs.Places.{scheme_named, segments_of as url_segments}
 use Rattle.description_laws.specs.Encoding.{AreBytes}
-use Rattle.description_laws.specs.Leading.{Http, Coap, IsTaken, Leads, FormLeads, RootFormLeads, AffordanceIsReached, IsReached, asked_by_http, asked_by, asked_of_thing, watched_by}
-use Rattle.description_laws.proofs.Targets.{slashed, AreParts, segments_read, target_read}
+use Rattle.description_laws.specs.Leading.{Http, Coap, IsTaken, Leads, FormLeads, AffordanceIsReached, IsReached, asked_by_http, asked_by, asked_of_thing, watched_by}
+use Rattle.description_laws.proofs.Targets.{slashed, segments_read, target_read}
 use Rattle.description_laws.proofs.OneThing.{members_for, found as affordance_found}
-use Rattle.consumer_laws.specs.Choosing.{asked_from, IsItsAct, IsAsWritten, AreAsWritten}
+use Rattle.consumer_laws.specs.Choosing.{IsItsAct, IsAsWritten, AreAsWritten}
 use Rattle.consumer_laws.proofs.GeneratedForms.{IsPlainForm, affordance_plain, root_plain}
 
 -- ---- what all hold, one holds

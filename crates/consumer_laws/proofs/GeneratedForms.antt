@@ -1,6 +1,6 @@
 -- The forms that are generated name no method, and their URLs are a base with segments behind it.
-use Rattle.std.proofs.Common.{◌≡◌, ◌⊎◌, ℕ, Bool, true, false, List, [], ◌∷◌, ◌++◌, append_assoc, append-nil, Option, Some, None, inl, inr, refl, sym, ap, subst, ◌∙◌}
-use Rattle.std.specs.Prelude.{codes, option_map, option_and_then, if◌then◌else◌}
+use Rattle.std.proofs.Common.{◌≡◌, ◌⊎◌, ℕ, Bool, true, false, List, [], ◌∷◌, ◌++◌, append_assoc, append-nil, Option, Some, None, inl, inr, refl, sym, subst, ◌∙◌}
+use Rattle.std.specs.Prelude.{codes, if◌then◌else◌}
 use Rattle.std.specs.List.{AllByRecursion}
 use Rattle.std.specs.Option.{option_map_or}
 use Rattle.std.specs.Str.{bytes_eq}
@@ -16,7 +16,7 @@ use Rattle.wot_terms.specs.Faults.{holder}
 use Rattle.wot_terms.specs.Affordances.{part, flag_of}
 use Rattle.wot_forms.specs.declared.bases.Bases.{Bases}
 use Rattle.wot_forms.specs.declared.form.Form.{Form}
-use Rattle.wot_forms.specs.Forms.{default_ops, form_of, list_forms, forms_under, affordance_forms, forms_in}
+use Rattle.wot_forms.specs.Forms.{default_ops, form_of, list_forms, forms_under, affordance_forms}
 use Rattle.wot_forms.specs.Generated.{form, plain_form, holder_path, affordance_path, generated_forms, root_ops, generated_root_forms, is_coap_segment, property_ops, with_forms, generated}
 use Rattle.wot_forms.proofs.FormLists.{forms_in_list}
 use Rattle.description_laws.specs.Leading.{Binding, Http, Coap, base_by}
@@ -24,7 +24,7 @@ use Rattle.description_laws.proofs.EncodedBytes.{encoded_is_inside}
 use Rattle.description_laws.proofs.Targets.{slashed, AreParts}
 use Rattle.description_laws.proofs.Paths.{url_of, url_is}
 use Rattle.description_laws.proofs.Members.{Field}
-use Rattle.description_laws.proofs.Generation.{held_after, held_is, root_forms_held, root_forms_are}
+use Rattle.description_laws.proofs.Generation.{held_is, root_forms_held, root_forms_are}
 use Rattle.description_laws.proofs.AffordanceForms.{all_mapped, forms_after}
 use Rattle.description_laws.proofs.OneThing.{members_for, IsWithForms, made_for}
 

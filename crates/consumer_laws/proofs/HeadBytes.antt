@@ -11,7 +11,7 @@ use Rattle.std.proofs.lemmas.Str.Parse.{digit_at}
 use Rattle.httparse.specs.Grammar.{is_token_byte, is_value_byte, is_ows, AllPass, IsToken, Field, IsField, crlf, skip_ows, trim_ows, print_field, print_section}
 use Rattle.httparse.proofs.TrimLemmas.{AllPass-reverse}
 use Rattle.consumer_laws.specs.Asking.{IsVisible}
-use Rattle.consumer_laws.proofs.HeadLines.{IsPlain, IsLine, AreLines, printed}
+use Rattle.consumer_laws.proofs.HeadLines.{IsPlain, AreLines, printed}
 
 -- ---- tests of bytes
 

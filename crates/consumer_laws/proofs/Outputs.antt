@@ -1,28 +1,24 @@
 -- What a Thing lets out is accepted by its description.
-use Rattle.std.proofs.Common.{◌≡◌, ℕ, true, List, [], ◌∷◌, map, Option, Some, None, Ok, refl, sym, ap, subst, ◌∙◌}
+use Rattle.std.proofs.Common.{◌≡◌, ℕ, true, List, Option, Some, None, Ok, refl, sym, subst}
 use Rattle.std.specs.Prelude.{codes, IfSome, option_and_then}
 use Rattle.std.specs.List.{AllByRecursion}
-use Rattle.wot_json.specs.Json.{text_of}
 use Rattle.wot_json.specs.Lookup.{member_list, value_under}
-use Rattle.wot_json.specs.declared.reading.TheConstants.{MAX_DEPTH}
-use Rattle.wot_json.specs.Tree.{Json, null, boolean, integer, string, array, object, Members, no_members, member, nesting}
-use Rattle.wot_json.specs.WellFormed.{IsWellFormed}
+use Rattle.wot_json.specs.Tree.{Json, null, boolean, integer, string, array, object, Members, no_members, member}
 use Rattle.wot_json.proofs.ReadsBack.{tree_of-text_of}
 use Rattle.wot_schema.specs.Acceptance.{Accepts}
 use Rattle.wot_terms.specs.declared.kind.Kind.{Kind}
 use Rattle.wot_terms.specs.declared.kind.Kind.TheVariants as kind
 use Rattle.wot_terms.specs.declared.op.Op.{Op}
 use Rattle.wot_terms.specs.declared.op.Op.TheVariants as op
-use Rattle.wot_terms.specs.Affordances.{part, output_of, affordance_of}
+use Rattle.wot_terms.specs.Affordances.{part, output_of}
 use Rattle.wot_terms.specs.Faults.{holder}
 use Rattle.wot_forms.specs.declared.bases.Bases.{Bases}
 use Rattle.wot_forms.specs.Generated.{generated}
 use Rattle.wot_forms.specs.Segments.{is_plain_segment}
-use Rattle.tm_derive.specs.Derivation.{Things}
 use Rattle.tm_derive.proofs.NoFaults.{AreGood, derived_good}
-use Rattle.thing_site.specs.Site.{Placed, ExposedThing, Site, Slots, placed, exposed, site_of, affordance_named}
+use Rattle.thing_site.specs.Site.{Placed, ExposedThing, Site, Slots, exposed, site_of}
 use Rattle.thing_state.specs.Calls.{IsTaken}
-use Rattle.wot_consumer.specs.Judgement.{affordance_named as described, property_schema, output_schema, IsAcceptedBy, AreProperties, AcceptsOutput}
+use Rattle.wot_consumer.specs.Judgement.{affordance_named as described, AreProperties, AcceptsOutput}
 use Rattle.wot_consumer.specs.Operations.{is_consumed, kind_of}
 use Rattle.description_laws.proofs.Leading.{over_things}
 use Rattle.description_laws.proofs.Members.{each_of, both_of}

@@ -1,14 +1,13 @@
 -- A message that is read at the front of a stream is taken once, in whatever pieces it comes.
-use Rattle.std.proofs.Common.{◌≡◌, ◌≢◌, ◌<◌, ◌≤◌, ◌+◌, ℕ, false, List, [], ◌∷◌, ◌++◌, append-nil, length, drop, Some, refl, sym, ap, subst, ◌∙◌, arith}
-use Rattle.std.specs.Prelude.{Option, None}
+use Rattle.std.proofs.Common.{◌≡◌, ◌≢◌, ◌≤◌, ◌+◌, ℕ, false, List, [], ◌∷◌, ◌++◌, append-nil, length, drop, Some, refl, sym, ap, subst, arith}
+use Rattle.std.specs.Prelude.{Option}
 use Rattle.std.proofs.lemmas.List.{length-append, drop_all}
 use Rattle.thing_ops.specs.Requests.{RequestSeen}
-use Rattle.http_wire.specs.Reading.{asked}
 use Rattle.http_wire.specs.Stream.{Front, short, message, fault, IsFront, no_end, IsSettled}
 use Rattle.http_wire.proofs.MoreOfAStream.{front_stays}
 use Rattle.http_wire.proofs.OneFront.{at_most_one_front}
-use Rattle.http_bind.specs.Cutting.{IsFirst, AreFirst, EndsThere, AreRequests, HasTaken}
-use Rattle.http_bind.specs.Streams.{Connection, HasNothing, Taken, asks, found, read_as, bytes_used}
+use Rattle.http_bind.specs.Cutting.{IsFirst, AreFirst, EndsThere, AreRequests}
+use Rattle.http_bind.specs.Streams.{Connection, asks, found, read_as, bytes_used}
 use Rattle.http_bind.proofs.Requests.{front_within, takes_the_first, takes_all, has_one_list}
 use Rattle.consumer_laws.specs.Asking.{IsOneMessage, IsTakenOnce}
 

@@ -1,8 +1,7 @@
 -- The reply that a servient writes to an outcome is read as its status and payload.
-use Rattle.std.proofs.Common.{◌≡◌, ◌≢◌, ◌<◌, ◌≤◌, ◌+◌, ◌^◌, ℕ, Bool, true, false, List, [], ◌∷◌, ◌++◌, append_assoc, length, map, take, drop, Option, Some, None, option_map, Result, Ok, refl, sym, ap, ap₂, subst, ◌∙◌, arith}
-use Rattle.std.specs.Prelude.{◌==◌, ◌&&◌, codes, decimal, IfSome, IsTrue, nat_le, if◌then◌else◌}
-use Rattle.std.specs.List.{AllByRecursion, list_all}
-use Rattle.std.specs.Char.{is_ascii_digit}
+use Rattle.std.proofs.Common.{◌≡◌, ◌<◌, ◌≤◌, ◌+◌, ◌^◌, ℕ, Bool, true, false, List, [], ◌∷◌, ◌++◌, length, map, Option, Some, None, option_map, Ok, refl, sym, ap, subst, ◌∙◌, arith}
+use Rattle.std.specs.Prelude.{◌&&◌, codes, decimal, IfSome, IsTrue, nat_le, if◌then◌else◌}
+use Rattle.std.specs.List.{list_all}
 use Rattle.std.proofs.Math.Seq.{take-append_seam, drop-append_seam}
 use Rattle.std.proofs.lemmas.Bool.Decides.{nat_tests}
 use Rattle.std.proofs.lemmas.List.{length-append, take_all}
@@ -14,14 +13,10 @@ use Rattle.thing_ops.specs.Outcomes.{Payload, text, word, nothing, answer_of, pa
 use Rattle.thing_ops.specs.Verbs.{verb_name, verbs_in, further_names, names_of}
 use Rattle.http_fields.specs.declared.framing.Framing.TheVariants as framing
 use Rattle.http_fields.specs.Bodies.{longest_reply, stated_body}
-use Rattle.http_fields.specs.Chunks.{BodyFront, whole}
-use Rattle.http_fields.specs.Marks.{length_through, empty_line}
-use Rattle.http_replies.specs.declared.reply_heads.ReplyHead.{ReplyHead}
-use Rattle.http_replies.specs.declared.reply_scan.ReplyFront.{ReplyFront}
+use Rattle.http_fields.specs.Chunks.{whole}
 use Rattle.http_replies.specs.declared.reply_scan.ReplyFront.TheVariants as front
-use Rattle.http_replies.specs.declared.reply_scan.ReplyScan.{ReplyScan}
 use Rattle.http_replies.specs.declared.reply_scan.ReplyScan.TheVariants as scan
-use Rattle.http_replies.specs.ReplyFronts.{IsReply, IsReplyAfter, IsReplyJudged, final, is_bodiless, with_reply_body, scanned_of}
+use Rattle.http_replies.specs.ReplyFronts.{IsReplyAfter, IsReplyJudged, final, with_reply_body}
 use Rattle.http_replies.specs.Writing.{entity_tag, PlainReply, http_reply}
 use Rattle.http_bind.specs.Places.{path_text}
 use Rattle.http_bind.specs.Replying.{longest_reply_head, type_of_payload, media_type_of, location_of, allow_of, head_of, head_with, reply}

@@ -1,5 +1,5 @@
 -- The head of a reply that a servient writes: it is a head by the grammar, and its lines say how long the body is.
-use Rattle.std.proofs.Common.{◌≡◌, ◌≢◌, ◌<◌, ◌≤◌, ◌+◌, ◌^◌, ℕ, Bool, true, false, not, List, [], ◌∷◌, ◌++◌, append_assoc, append-nil, length, map, Option, Some, None, option_map, Result, Ok, Err, refl, sym, ap, ap₂, subst, ◌∙◌, arith}
+use Rattle.std.proofs.Common.{◌≡◌, ◌<◌, ◌≤◌, ◌+◌, ℕ, Bool, true, false, List, [], ◌∷◌, ◌++◌, append_assoc, append-nil, length, map, Option, Some, None, option_map, Result, Ok, refl, sym, ap, ap₂, subst, ◌∙◌, arith}
 use Rattle.std.specs.Prelude.{◌&&◌, ◌||◌, ◌==◌, codes, decimal, IfSome, IsSome, IsTrue, if◌then◌else◌}
 use Rattle.std.specs.List.{AllByRecursion, list_all}
 use Rattle.std.specs.Char.{is_ascii_digit}
@@ -8,20 +8,19 @@ use Rattle.std.specs.Str.Parse.{digits_value}
 use Rattle.std.proofs.lemmas.Bool.Decides.{nat_tests}
 use Rattle.std.proofs.lemmas.List.{length-append, length-map}
 use Rattle.std.proofs.lemmas.List.Elements.{All-from_recursion}
-use Rattle.httparse.specs.Grammar.{is_token_byte, is_value_byte, AllPass, IsField, crlf, trim_ows, print_section, print_response, ResponseHead, IsResponseHead, status_code}
+use Rattle.httparse.specs.Grammar.{is_token_byte, is_value_byte, IsField, crlf, trim_ows, print_section, print_response, ResponseHead, IsResponseHead}
 use Rattle.httparse.specs.Spans.{name_and_value}
 use Rattle.http_fields.specs.declared.framing.Framing.{Framing}
 use Rattle.http_fields.specs.declared.framing.Framing.TheVariants as framing
 use Rattle.http_fields.specs.Bodies.{longest_reply}
-use Rattle.http_fields.specs.Fields.{Standing, absent, once, standing, values_of, Said, said_by}
+use Rattle.http_fields.specs.Fields.{Standing, absent, once, standing, values_of}
 use Rattle.http_fields.specs.Framings.{stated_framing, framing_by}
 use Rattle.http_fields.specs.Marks.{line_feeds}
-use Rattle.http_replies.specs.declared.reply_heads.ReplyHead.{ReplyHead}
-use Rattle.http_replies.specs.ReplyFronts.{IsReplyHead, IsReplyJudged, one_head, is_interim, is_bodiless, no_framing, some_framing, are_absent, reply_framing, with_status, said_in_reply, judged_reply}
-use Rattle.http_replies.specs.Writing.{entity_tag, PlainReply, phrase_of, phrase_text, field_line, written_length, closing, http_reply}
+use Rattle.http_replies.specs.ReplyFronts.{IsReplyJudged, one_head, is_interim, is_bodiless, no_framing, some_framing, are_absent, reply_framing, with_status, said_in_reply, judged_reply}
+use Rattle.http_replies.specs.Writing.{entity_tag, PlainReply, phrase_of, field_line, written_length, closing, http_reply}
 use Rattle.http_replies.proofs.ReplyLines.{from_close, from_length, from_allow, from_location, from_tag, from_type, by_lines}
 use Rattle.consumer_laws.proofs.HeadLines.{IsPlain, IsLine, AreLines, printed, feeds_of_lines}
-use Rattle.consumer_laws.proofs.HeadBytes.{both_all, weaker, plain, is_plain, plain_bytes, passes, all_pass, digits_pass, field_of, fields, line_of, lines_all, token, IsGood, good, good_all, good_fields, one_line, section_is, IsSize, is_size, digit_is_plain}
+use Rattle.consumer_laws.proofs.HeadBytes.{both_all, weaker, plain, is_plain, plain_bytes, passes, all_pass, digits_pass, field_of, fields, line_of, lines_all, IsGood, good, good_all, good_fields, one_line, section_is, IsSize, is_size}
 use Rattle.consumer_laws.proofs.RequestHeads.{Lines, stated, behind_blank}
 
 -- ---- texts of printable characters

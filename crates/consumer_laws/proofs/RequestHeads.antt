@@ -1,5 +1,5 @@
 -- The head of the request that a consumer writes: it is a head by the grammar, and its lines say what is asked for.
-use Rattle.std.proofs.Common.{◌≡◌, ◌≢◌, ◌<◌, ◌≤◌, ◌+◌, ◌^◌, ℕ, Bool, true, false, not, List, [], ◌∷◌, ◌++◌, append_assoc, length, map, Option, Some, None, Result, Ok, Err, refl, sym, ap, ap₂, ◌∙◌, arith}
+use Rattle.std.proofs.Common.{◌≡◌, ◌≢◌, ◌<◌, ◌≤◌, ◌^◌, ℕ, Bool, true, false, not, List, [], ◌∷◌, ◌++◌, append_assoc, length, map, Option, Some, None, Result, Ok, Err, refl, ap, ap₂, ◌∙◌, arith}
 use Rattle.std.specs.Prelude.{◌&&◌, codes, decimal, IsTrue, nat_lt, unwrap_or, if◌then◌else◌}
 use Rattle.std.specs.List.{AllByRecursion, list_all}
 use Rattle.std.specs.Char.{is_ascii_digit}
@@ -11,10 +11,9 @@ use Rattle.std.proofs.lemmas.List.Elements.{All-from_recursion}
 use Rattle.std.proofs.lemmas.Str.{IsUtf8-from_ascii}
 use Rattle.std.proofs.lemmas.Str.Ascii.{IsAscii-from_all}
 use Rattle.httparse.specs.Grammar.{is_token_byte, is_uri_byte, is_value_byte, IsToken, IsField, crlf, trim_ows, print_section, print_request, RequestHead, IsRequestHead}
-use Rattle.httparse.specs.Spans.{name_and_value}
 use Rattle.http_fields.specs.declared.framing.Framing.{Framing}
 use Rattle.http_fields.specs.declared.framing.Framing.TheVariants as framing
-use Rattle.http_fields.specs.Fields.{Line, absent, once, Said, said_by, format_of, accept_of}
+use Rattle.http_fields.specs.Fields.{Said, said_by, format_of, accept_of}
 use Rattle.http_fields.specs.Framings.{is_length, stated_framing, framing_by}
 use Rattle.http_wire.specs.Conditions.{asking_lines}
 use Rattle.http_wire.specs.Heads.{lines_of}
@@ -24,7 +23,7 @@ use Rattle.thing_ops.specs.declared.verb.Verb.TheVariants as verb
 use Rattle.thing_ops.specs.Verbs.{verb_name}
 use Rattle.wot_consumer.specs.declared.chosen.Chosen.{Chosen}
 use Rattle.wot_consumer.specs.Messages.{path_text, host_and_port, request_line, field, body_fields, request_bytes}
-use Rattle.consumer_laws.specs.Asking.{IsVisible, CanBeSent, format_for}
+use Rattle.consumer_laws.specs.Asking.{IsVisible, format_for}
 use Rattle.consumer_laws.proofs.HeadLines.{IsPlain, IsLine, AreLines, printed}
 use Rattle.consumer_laws.proofs.HeadBytes.{both_all, weaker, plain, is_plain, plain_bytes, digits_pass, fields, line_of, lines_all, token, IsGood, good, good_all, good_fields, one_line, section_is, IsSize, is_size, digit_is_plain, digit_is_value, visible_is_plain, visible_value}
 use Rattle.consumer_laws.proofs.Targets.{target_is_visible, some_target}

@@ -1,34 +1,31 @@
 -- The bytes that a consumer writes are one whole message at the front of a stream, and it asks for what was chosen.
-use Rattle.std.proofs.Common.{◌≡◌, ◌≢◌, ◌<◌, ◌≤◌, ◌+◌, ◌-◌, ◌^◌, ℕ, Bool, true, false, not, List, [], ◌∷◌, ◌++◌, append-nil, append_assoc, length, map, take, drop, Option, Some, None, option_map, Result, Ok, Err, refl, sym, ap, ap₂, subst, ◌∙◌, arith}
+use Rattle.std.proofs.Common.{◌≡◌, ◌≢◌, ◌≤◌, ◌+◌, ◌-◌, ℕ, Bool, true, false, not, List, [], ◌∷◌, ◌++◌, append-nil, append_assoc, length, map, take, Option, Some, None, option_map, Result, Ok, Err, refl, sym, ap, ap₂, subst, ◌∙◌, arith}
 use Rattle.std.specs.Prelude.{◌&&◌, nat_le, codes, unwrap_or, if◌then◌else◌}
-use Rattle.std.specs.List.{AllByRecursion}
 use Rattle.std.proofs.Math.Seq.{take-append_seam, take-append-add, drop-append_seam}
 use Rattle.std.proofs.lemmas.Bool.Decides.{nat_tests}
 use Rattle.std.proofs.lemmas.List.{length-append, length-map}
 use Rattle.httparse.specs.Grammar.{print_request}
-use Rattle.httparse.specs.Spans.{name_and_value}
 use Rattle.http_fields.specs.declared.framing.Framing.{Framing}
 use Rattle.http_fields.specs.declared.framing.Framing.TheVariants as framing
 use Rattle.http_fields.specs.Bodies.{stated_body}
 use Rattle.http_fields.specs.Chunks.{BodyFront, whole}
-use Rattle.http_fields.specs.Fields.{Line, Said, said_by, format_of, accept_of}
+use Rattle.http_fields.specs.Fields.{Line, said_by, format_of, accept_of}
 use Rattle.http_fields.specs.Framings.{framing_by}
 use Rattle.http_fields.specs.Marks.{length_through, empty_line, line_feeds}
 use Rattle.http_wire.specs.Conditions.{conditions_of}
 use Rattle.http_wire.specs.Heads.{skipped, is_newer, lines_of}
-use Rattle.http_wire.specs.Judging.{FramedHead, IsJudged, one_head, is_once, is_often, fields_judged, with_framing, has_body, expects, longest_body}
-use Rattle.http_wire.specs.Reading.{verb_of, query_of, request_at, asked}
-use Rattle.http_wire.specs.Stream.{Front, message, PlainHead, IsFront, IsFrontAfter, one_end, longest_head, plain_head_of, with_body, with_head}
+use Rattle.http_wire.specs.Judging.{FramedHead, IsJudged, one_head, is_once, is_often, with_framing, has_body, longest_body}
+use Rattle.http_wire.specs.Reading.{verb_of, request_at, asked}
+use Rattle.http_wire.specs.Stream.{message, IsFront, IsFrontAfter, one_end, longest_head, plain_head_of, with_body, with_head}
 use Rattle.thing_ops.specs.declared.conditions.Conditions.{Conditions}
 use Rattle.thing_ops.specs.declared.request.Accept.{Accept}
 use Rattle.thing_ops.specs.declared.request.Format.{Format}
 use Rattle.thing_ops.specs.declared.verb.Verb.{Verb}
 use Rattle.thing_ops.specs.declared.verb.Verb.TheVariants as verb
-use Rattle.thing_ops.specs.Requests.{RequestSeen}
 use Rattle.thing_ops.specs.Verbs.{verb_name}
 use Rattle.wot_consumer.specs.declared.chosen.Chosen.{Chosen}
 use Rattle.wot_consumer.specs.Messages.{path_text, request_bytes}
-use Rattle.consumer_laws.specs.Asking.{request_for, any_version, format_for, IsOneMessage, CanBeSent}
+use Rattle.consumer_laws.specs.Asking.{request_for, any_version, IsOneMessage, CanBeSent}
 use Rattle.consumer_laws.proofs.HeadLines.{AreLines, printed, lines_end, feeds_of_lines, lines_paired}
 use Rattle.consumer_laws.proofs.HeadBytes.{fields, field_of, line_of}
 use Rattle.consumer_laws.proofs.Targets.{path_is_read, has_no_query}

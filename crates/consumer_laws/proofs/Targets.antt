@@ -1,5 +1,5 @@
 -- The target of a request has the path that was chosen, and no query.
-use Rattle.std.proofs.Common.{◌≡◌, ◌≢◌, ◌<◌, ◌≤◌, ◌+◌, ◌/◌, ◌%◌, ℕ, Bool, true, false, List, [], ◌∷◌, ◌++◌, length, map, drop, Some, refl, ap, ap₂, ◌∙◌, sym, arith, append_assoc, le-leb, inl, inr}
+use Rattle.std.proofs.Common.{◌≡◌, ◌≢◌, ◌<◌, ◌≤◌, ◌+◌, ◌/◌, ◌%◌, ℕ, Bool, true, false, List, [], ◌∷◌, ◌++◌, length, map, drop, Some, refl, ap, ap₂, ◌∙◌, sym, arith, le-leb, inl, inr}
 use Rattle.std.specs.Prelude.{nat_lt, if◌then◌else◌}
 use Rattle.std.specs.List.{AllByRecursion}
 use Rattle.std.specs.Fmt.{digit_glyph}
@@ -8,7 +8,7 @@ use Rattle.std.proofs.lemmas.Bool.Decides.{nat_tests}
 use Rattle.std.proofs.lemmas.List.{drop_all}
 use Rattle.percent_encoding.specs.Percent.{percent_encode_byte, percent_decode}
 use Rattle.servient_base.specs.Encoding.{is_unreserved, encoded_byte, encoded}
-use Rattle.http_wire.specs.Targets.{segments_of, query_place}
+use Rattle.http_wire.specs.Targets.{segments_of}
 use Rattle.http_wire.specs.Reading.{query_of}
 use Rattle.wot_consumer.specs.Messages.{segments_text, path_text}
 use Rattle.description_laws.specs.Encoding.{AreBytes}
@@ -51,10 +51,10 @@ unreserved_is_visible : (b : ℕ) → is_unreserved b ≡ true → IsVisible b
 unreserved_is_visible b is = (low, high)
   where
     low : 33 ≤ b
-    low = elim (cases_lt b 33) [ | inl less ↦ absurd (never (sym (below b less) ∙ is)) | inr most ↦ omega (arith, most) ]
+    low = elim (cases_lt b 33) [ inl less ↦ absurd (never (sym (below b less) ∙ is)) | inr most ↦ omega (arith, most) ]
 
     high : b ≤ 126
-    high = elim (cases_lt 126 b) [ | inl more ↦ absurd (never (sym (beyond b more) ∙ is)) | inr most ↦ omega (arith, most) ]
+    high = elim (cases_lt 126 b) [ inl more ↦ absurd (never (sym (beyond b more) ∙ is)) | inr most ↦ omega (arith, most) ]
 
 glyph_is_visible : (d : ℕ) → d < 16 → IsVisible (digit_glyph true d)
 glyph_is_visible d less = by (nat_lt d 10) refl

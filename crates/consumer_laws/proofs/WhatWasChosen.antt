@@ -1,5 +1,5 @@
 -- The requests of a consumer of derived descriptions are what was chosen, for each Thing.
-use Rattle.std.proofs.Common.{◌≡◌, ◌≢◌, ℕ, true, List, [], ◌∷◌, map, Ok, sym, subst}
+use Rattle.std.proofs.Common.{◌≡◌, ℕ, true, List, [], ◌∷◌, map, Ok, sym, subst}
 use Rattle.std.specs.List.{AllByRecursion}
 use Rattle.wot_json.specs.Tree.{Json}
 use Rattle.wot_forms.specs.declared.bases.Bases.{Bases}
@@ -7,11 +7,11 @@ use Rattle.wot_forms.specs.Generated.{generated}
 use Rattle.wot_forms.specs.Segments.{is_plain_segment}
 use Rattle.tm_derive.specs.Derivation.{Things}
 use Rattle.tm_derive.proofs.NoFaults.{AreGood, derived_good}
-use Rattle.thing_site.specs.Site.{ExposedThing, Site, Slots, exposed, site_of}
+use Rattle.thing_site.specs.Site.{Site, Slots, exposed, site_of}
 use Rattle.wot_consumer.specs.Messages.{request_bytes}
 use Rattle.description_laws.specs.Leading.{IsReached}
 use Rattle.description_laws.proofs.Leading.{over_things, lead}
-use Rattle.description_laws.proofs.Members.{each_of, both_of}
+use Rattle.description_laws.proofs.Members.{each_of}
 use Rattle.description_laws.proofs.Things.{IsGenerated, things_made}
 use Rattle.consumer_laws.specs.Asking.{request_for}
 use Rattle.consumer_laws.specs.Choosing.{IsWhatWasChosen, RequestsAreWhatWasChosen}

@@ -1,6 +1,6 @@
 -- A reply over HTTP that a servient writes is read by a consumer as it was meant (RFC 9110, section 15; RFC 9112, section
 -- 6.3; TD 1.1, sections 5.3.1.3 and 5.3.1.4).
-use Rattle.std.specs.Prelude.{◌≡◌, ◌≤◌, ◌<◌, ◌^◌, ℕ, List, length, Bool, false, IfSome, Option, Some}
+use Rattle.std.specs.Prelude.{◌≡◌, ◌≤◌, ◌<◌, ◌^◌, ℕ, List, length, Bool, false, IfSome, Some}
 use Rattle.thing_ops.specs.declared.outcome.Outcome.{Outcome}
 use Rattle.thing_ops.specs.Outcomes.{answer_of, payload_of, version_of}
 use Rattle.http_fields.specs.Bodies.{longest_reply}

@@ -1,5 +1,5 @@
-mod HeadLines
-mod HeadBytes
+pub mod HeadLines
+pub mod HeadBytes
 mod Targets
 mod RequestHeads
 mod RequestsRead

@@ -1,10 +1,10 @@
 -- The reply that a servient writes to an outcome is read as its status and payload.
-use Rattle.std.proofs.Common.{◌≡◌, ◌<◌, ◌≤◌, ◌+◌, ◌^◌, ℕ, Bool, true, false, List, [], ◌∷◌, ◌++◌, length, map, Option, Some, None, option_map, Ok, refl, sym, ap, subst, ◌∙◌, arith}
-use Rattle.std.specs.Prelude.{◌&&◌, codes, decimal, IfSome, IsTrue, nat_le, if◌then◌else◌}
+use Rattle.std.proofs.Common.{◌≡◌, ◌≢◌, ◌<◌, ◌≤◌, ◌+◌, ◌^◌, ℕ, Bool, true, false, List, [], ◌∷◌, ◌++◌, length, length-drop, map, take, drop, Option, Some, None, option_map, Ok, refl, sym, ap, subst, ◌∙◌, arith}
+use Rattle.std.specs.Prelude.{◌&&◌, codes, decimal, IfSome, IsTrue, nat_le, nat_lt, if◌then◌else◌}
 use Rattle.std.specs.List.{list_all}
 use Rattle.std.proofs.Math.Seq.{take-append_seam, drop-append_seam}
 use Rattle.std.proofs.lemmas.Bool.Decides.{nat_tests}
-use Rattle.std.proofs.lemmas.List.{length-append, take_all}
+use Rattle.std.proofs.lemmas.List.{length-append, take_all, take-append-le}
 use Rattle.thing_ops.specs.declared.outcome.Outcome.{Outcome}
 use Rattle.thing_ops.specs.declared.outcome.Outcome.TheVariants as outcome
 use Rattle.thing_ops.specs.declared.verb.Verb.{Verb}
@@ -13,10 +13,12 @@ use Rattle.thing_ops.specs.Outcomes.{Payload, text, word, nothing, answer_of, pa
 use Rattle.thing_ops.specs.Verbs.{verb_name, verbs_in, further_names, names_of}
 use Rattle.http_fields.specs.declared.framing.Framing.TheVariants as framing
 use Rattle.http_fields.specs.Bodies.{longest_reply, stated_body}
-use Rattle.http_fields.specs.Chunks.{whole}
+use Rattle.http_fields.specs.Marks.{length_through, empty_line}
+use Rattle.http_fields.proofs.FoundMarks.{is_through, through_stays}
+use Rattle.http_fields.specs.Chunks.{whole, unfinished}
 use Rattle.http_replies.specs.declared.reply_scan.ReplyFront.TheVariants as front
 use Rattle.http_replies.specs.declared.reply_scan.ReplyScan.TheVariants as scan
-use Rattle.http_replies.specs.ReplyFronts.{IsReplyAfter, IsReplyJudged, final, with_reply_body}
+use Rattle.http_replies.specs.ReplyFronts.{IsReplyAfter, IsReplyJudged, no_end, final, with_reply_body}
 use Rattle.http_replies.specs.Writing.{entity_tag, PlainReply, http_reply}
 use Rattle.http_bind.specs.Places.{path_text}
 use Rattle.http_bind.specs.Replying.{longest_reply_head, type_of_payload, media_type_of, location_of, allow_of, head_of, head_with, reply}
@@ -45,20 +47,82 @@ module _ (r : PlainReply) (status : IsStatus r.status) (texts : HasTexts r) (bod
       (sym (ap (λ (x : List ℕ). with_reply_body r.status (0 + length (printed (start_line status ∷ map line_of (reply_lines r)))) (stated_body (length body) x)) (drop-append_seam (printed (start_line status ∷ map line_of (reply_lines r))) body)
       ∙ ap (with_reply_body r.status (0 + length (printed (start_line status ∷ map line_of (reply_lines r))))) body_is))
 
+  -- a part of it
+  some_missing : (xs : List ℕ) → xs ≢ [] → 0 < length xs
+  some_missing [] isnt = absurd (isnt refl)
+  some_missing (x ∷ xs) isnt = omega arith
+
+  -- with its head whole, and the body not
+  head_whole : (ended : Bool) (part missing : List ℕ) (m : ℕ) → part ++ missing ≡ printed (start_line status ∷ map line_of (reply_lines r)) ++ body → 0 < length missing
+      → length_through empty_line part ≡ Some m → IsReplyAfter ended front.Awaited 0 part
+  head_whole ended part missing m is some found =
+      final 0 part m (record { status = r.status; framing = Some (framing.Stated (length body)) }) found
+      (subst (λ (x : List ℕ). IsReplyJudged x (Ok (record { status = r.status; framing = Some (framing.Stated (length body)) }))) (sym head_is) (judged r status texts (length body) size none)) status.is_last
+      (sym (ap (with_reply_body r.status (0 + m)) (ap (λ (t : Bool). if t then whole (take (length body) (drop m part)) (length body) else unfinished) unread)))
+    where
+      at_whole : length_through empty_line (printed (start_line status ∷ map line_of (reply_lines r)) ++ body) ≡ Some m
+      at_whole = subst (λ (x : List ℕ). length_through empty_line x ≡ Some m) is (through_stays empty_line part missing m found)
+
+      same_number : Some (length (printed (start_line status ∷ map line_of (reply_lines r)))) ≡ Some m → m ≡ length (printed (start_line status ∷ map line_of (reply_lines r)))
+      same_number e = cc
+
+      same : m ≡ length (printed (start_line status ∷ map line_of (reply_lines r)))
+      same = same_number (sym (lines_end (start_line status) (map line_of (reply_lines r)) body (are_lines r status texts).0 (are_lines r status texts).1) ∙ at_whole)
+
+      within : m ≤ length part
+      within = (is_through empty_line part m found).within
+
+      head_is : take m part ≡ printed (start_line status ∷ map line_of (reply_lines r))
+      head_is =
+          sym (take-append-le m part missing within) ∙ ap (take m) is
+          ∙ ap (λ (k : ℕ). take k (printed (start_line status ∷ map line_of (reply_lines r)) ++ body)) same ∙ take-append_seam (printed (start_line status ∷ map line_of (reply_lines r))) body
+
+      unread : nat_le (length body) (length (drop m part)) ≡ false
+      unread =
+          leb-less (length body) (length (drop m part))
+          (omega (arith, length-drop m part, within, some, same, ap length is, length-append part missing, length-append (printed (start_line status ∷ map line_of (reply_lines r))) body))
+        where
+          leb-less : (a b : ℕ) → b < a → nat_le a b ≡ false
+          leb-less a b less = grind (arith, nat_tests)
+
+  part_is_short : (ended : Bool) (part missing : List ℕ) → part ++ missing ≡ printed (start_line status ∷ map line_of (reply_lines r)) ++ body → 0 < length missing → IsReplyAfter ended front.Awaited 0 part
+  part_is_short ended part missing is some = by (length_through empty_line part) refl
+    where
+      by : (o : Option ℕ) → length_through empty_line part ≡ o → IsReplyAfter ended front.Awaited 0 part
+      by None found = no_end 0 part found refl
+      by (Some m) found = head_whole ended part missing m is some found
+
+  -- the whole
   pub read_back : length (http_reply r ++ body) ≤ longest_reply → AreReadBack (http_reply r ++ body) r.status body
   read_back short =
       subst (λ (x : List ℕ). length (x ++ body) ≤ longest_reply → AreReadBack (x ++ body) r.status body) (sym (text_is r status texts)) at short
     where
       at : length (printed (start_line status ∷ map line_of (reply_lines r)) ++ body) ≤ longest_reply → AreReadBack (printed (start_line status ∷ map line_of (reply_lines r)) ++ body) r.status body
-      at few ended = (
-        front.Reply r.status body (0 + length (printed (start_line status ∷ map line_of (reply_lines r))) + length body),
-        subst (λ (x : List ℕ). IsReplyAfter ended (front.Reply r.status body (0 + length (printed (start_line status ∷ map line_of (reply_lines r))) + length body)) 0 x)
-            (sym (take_all (longest_reply + 1) (printed (start_line status ∷ map line_of (reply_lines r)) ++ body) (omega (arith, few)))) (is_after ended),
-        ap (λ (b : Bool). if b then scan.Whole r.status body else scan.TooLong) (sym fits),
-      )
+      at few = record {
+        whole = λ ended. (
+          front.Reply r.status body (0 + length (printed (start_line status ∷ map line_of (reply_lines r))) + length body),
+          subst (λ (x : List ℕ). IsReplyAfter ended (front.Reply r.status body (0 + length (printed (start_line status ∷ map line_of (reply_lines r))) + length body)) 0 x)
+              (sym (take_all (longest_reply + 1) (printed (start_line status ∷ map line_of (reply_lines r)) ++ body) (omega (arith, few)))) (is_after ended),
+          ap (λ (b : Bool). if b then scan.Whole r.status body else scan.TooLong) (sym fits),
+        );
+        early = λ ended part missing is some. (
+          front.Awaited,
+          subst (λ (x : List ℕ). IsReplyAfter ended front.Awaited 0 x) (sym (take_all (longest_reply + 1) part (within part missing is))) (part_is_short ended part missing is (some_missing missing some)),
+          ap (λ (b : Bool). if b then scan.TooLong else scan.Short) (sym (unfull part missing is)),
+        );
+      }
         where
           fits : nat_le (0 + length (printed (start_line status ∷ map line_of (reply_lines r))) + length body) longest_reply ≡ true
           fits = let sum = length-append (printed (start_line status ∷ map line_of (reply_lines r))) body in grind (arith, nat_tests)
+
+          within : (part missing : List ℕ) → part ++ missing ≡ printed (start_line status ∷ map line_of (reply_lines r)) ++ body → length part ≤ longest_reply + 1
+          within part missing is = omega (arith, few, ap length is, length-append part missing)
+
+          unfull : (part missing : List ℕ) → part ++ missing ≡ printed (start_line status ∷ map line_of (reply_lines r)) ++ body → nat_lt longest_reply (length part) ≡ false
+          unfull part missing is = not_less longest_reply (length part) (omega (arith, few, ap length is, length-append part missing))
+            where
+              not_less : (a b : ℕ) → b ≤ a → nat_lt a b ≡ false
+              not_less a b most = grind (arith, nat_tests)
 
 -- ---- statuses
 

@@ -10,3 +10,4 @@ mod WhatWasChosen
 mod ReplyHeads
 mod RepliesRead
 mod Outputs
+mod Printing

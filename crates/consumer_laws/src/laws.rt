@@ -1,6 +1,7 @@
 //! Laws on a consumer and a servient.
 
 ghost use Rattle.consumer_laws.specs.Choosing.{RequestsAreWhatWasChosen};
+ghost use Rattle.consumer_laws.specs.Consuming.{RepliesAreWhatIsPrinted};
 ghost use Rattle.consumer_laws.specs.Outputs.{OutputsAreTaken};
 ghost use Rattle.consumer_laws.specs.Replying.{RepliesAreReadBack};
 
@@ -25,4 +26,11 @@ pub fn replies_are_read_back()
 /// deep.
 pub fn outputs_are_taken()
     ensures { OutputsAreTaken }
+{}
+
+/// An operation over HTTP, over a network that brings no bytes but those of one reply, in any pieces: it prints the
+/// payload of that reply and ends as done, where it heard the whole reply and its status is a success; or else it prints
+/// nothing, unless the output fails.
+pub fn replies_are_what_is_printed()
+    ensures { RepliesAreWhatIsPrinted }
 {}

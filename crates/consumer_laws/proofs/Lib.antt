@@ -11,3 +11,4 @@ mod ReplyHeads
 mod RepliesRead
 mod Outputs
 mod Printing
+mod Consuming

@@ -1,6 +1,6 @@
 -- A request over HTTP that a consumer writes is read by a servient as what was chosen (RFC 9112, sections 2.2, 6 and 9.3;
 -- TD 1.1, section 5.3.4.2).
-use Rattle.std.specs.Prelude.{◌≡◌, ◌≢◌, ◌≤◌, ◌<◌, ◌+◌, ◌^◌, ℕ, List, [], ◌∷◌, ◌++◌, length, true, false, Option, Some, None, unwrap_or}
+use Rattle.std.specs.Prelude.{◌≡◌, ◌≢◌, ◌⊎◌, ◌≤◌, ◌<◌, ◌+◌, ◌^◌, ℕ, List, [], ◌∷◌, ◌++◌, length, true, false, Option, Some, None, unwrap_or}
 use Rattle.std.specs.List.{AllByRecursion}
 use Rattle.thing_ops.specs.declared.conditions.Conditions.{Conditions}
 use Rattle.thing_ops.specs.declared.request.Format.{Format}
@@ -47,9 +47,10 @@ IsOneMessage bytes request =
     (behind : List ℕ) → (head : PlainHead) × (body : List ℕ) × IsFront (bytes ++ behind) (message head body (length bytes) false) × (asked head body ≡ Some request)
 
 -- The pieces in which the bytes come are nothing to that: nothing is taken from a connection before the last of them has
--- come, and then this request is, once, and nothing else.
+-- come, and then this request is, once, and nothing else; at any time it or nothing was taken.
 pub record IsTakenOnce (bytes : List ℕ) (request : RequestSeen) : Type 0 where
   pub early : (x : Connection) (taken : List RequestSeen) (missing : List ℕ) → HasTaken x taken → x.stream ++ missing ≡ bytes → missing ≢ [] → taken ≡ []
+  pub at_most : (x : Connection) (taken : List RequestSeen) (missing : List ℕ) → HasTaken x taken → x.stream ++ missing ≡ bytes → (taken ≡ []) ⊎ (taken ≡ request ∷ [])
   pub whole : (x : Connection) (taken : List RequestSeen) → HasTaken x taken → x.stream ≡ bytes → HasNothing (Some x) → taken ≡ request ∷ []
 
 -- bytes are read as a request

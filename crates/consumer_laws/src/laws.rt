@@ -1,7 +1,7 @@
 //! Laws on a consumer and a servient.
 
 ghost use Rattle.consumer_laws.specs.Choosing.{RequestsAreWhatWasChosen};
-ghost use Rattle.consumer_laws.specs.Consuming.{RepliesAreWhatIsPrinted};
+ghost use Rattle.consumer_laws.specs.Consuming.{ConsumingDoesWhatIsDescribed, RepliesAreWhatIsPrinted};
 ghost use Rattle.consumer_laws.specs.Outputs.{OutputsAreTaken};
 ghost use Rattle.consumer_laws.specs.Replying.{RepliesAreReadBack};
 
@@ -33,4 +33,15 @@ pub fn outputs_are_taken()
 /// nothing, unless the output fails.
 pub fn replies_are_what_is_printed()
     ensures { RepliesAreWhatIsPrinted }
+{}
+
+/// An operation over HTTP by the description of a derived Thing asks for the act of that operation, at most once, whatever
+/// is lost and in whatever pieces it comes. Where it ends as done, a servient took exactly that request, once, its
+/// outcome was a success, and what it came to is printed and nothing else. Else nothing is printed, unless the output
+/// fails.
+///
+/// It is asked what `requests_are_what_was_chosen` asks, that the network brings no bytes but those that were sent, and
+/// that the reply has at most 65,536 bytes.
+pub fn consuming_does_what_is_described()
+    ensures { ConsumingDoesWhatIsDescribed }
 {}

@@ -6,12 +6,13 @@
 //! - What is chosen of a derived description is the act of its operation, and the request for it is read as just that:
 //!   `requests_are_what_was_chosen`.
 //! - A reply is read as its status and payload: `replies_are_read_back`. What is let out is taken: `outputs_are_taken`.
-//! - What is printed of an operation is the payload of the reply: `replies_are_what_is_printed`.
+//! - What is printed of an operation is the payload of the reply: `replies_are_what_is_printed`. With both ends, an operation
+//!   is done at most once, and what it came to is printed: `consuming_does_what_is_described`.
 #![tactic(auto)]
 
 mod laws;
 
 pub use laws::{
-    outputs_are_taken, replies_are_read_back, replies_are_what_is_printed,
-    requests_are_what_was_chosen,
+    consuming_does_what_is_described, outputs_are_taken, replies_are_read_back,
+    replies_are_what_is_printed, requests_are_what_was_chosen,
 };

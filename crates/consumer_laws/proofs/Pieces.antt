@@ -56,6 +56,7 @@ module _ (bytes : List ℕ) (request : RequestSeen) (one : IsOneMessage bytes re
       isnt e = cc
 
   only_it : (taken : List RequestSeen) (n : ℕ) → AreFirst bytes taken n → (taken ≡ []) ⊎ (taken ≡ request ∷ [])
+  unfolding is_first
   only_it [] n are = inl refl
   only_it (q ∷ qs) n (used, behind, first, others, e) =
       inr (ap₂ (λ (p : RequestSeen) (ps : List RequestSeen). p ∷ ps) (request_is (sym first.2 ∙ ap found same ∙ is_first.2)) (nothing_behind (drop used bytes) qs behind none others))

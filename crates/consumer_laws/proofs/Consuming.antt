@@ -1,12 +1,10 @@
 -- Consuming a derived Thing over HTTP does what is described.
-use Rattle.std.proofs.Common.{◌≡◌, ◌≢◌, ◌<◌, ◌≤◌, ◌^◌, ℕ, Bool, true, false, List, [], ◌∷◌, ◌++◌, Option, Some, None, option_map, inl, inr, refl, sym, ap, subst, ◌∙◌}
-use Rattle.std.specs.Prelude.{◌⊎◌, IfSome, length}
-use Rattle.std.specs.List.{AllByRecursion}
+use Rattle.std.proofs.Common.{◌≡◌, ◌≢◌, ℕ, Bool, true, false, List, [], ◌∷◌, ◌++◌, Option, Some, None, option_map, inl, inr, refl, sym, ap, subst, ◌∙◌}
+use Rattle.std.specs.Prelude.{◌⊎◌, IfSome}
 use Rattle.wot_json.specs.Json.{text_of}
-use Rattle.wot_json.specs.Tree.{Json}
 use Rattle.wot_forms.specs.declared.bases.Bases.{Bases}
 use Rattle.thing_ops.specs.declared.outcome.Outcome.{Outcome}
-use Rattle.thing_ops.specs.Outcomes.{answer_of, payload_of, version_of}
+use Rattle.thing_ops.specs.Outcomes.{answer_of, payload_of}
 use Rattle.thing_ops.specs.Requests.{RequestSeen}
 use Rattle.thing_site.specs.Site.{ExposedThing, Site, site_of}
 use Rattle.http_replies.specs.declared.reply_scan.ReplyScan.TheVariants as scan
@@ -16,12 +14,12 @@ use Rattle.http_replies.proofs.OneReply.{at_most_one_reply}
 use Rattle.http_bind.specs.Replying.{reply, head_with}
 use Rattle.wot_consumer.specs.declared.chosen.Chosen.{Chosen}
 use Rattle.network_consumer.specs.declared.consumed.Consumed.{Consumed}
-use Rattle.network_consumer.specs.declared.consumed.Consumed.TheVariants.{Done, Unprinted}
+use Rattle.network_consumer.specs.declared.consumed.Consumed.TheVariants.{Done}
 use Rattle.network_consumer.specs.declared.consumed.Status.TheVariants as status
 use Rattle.network_consumer.specs.declared.operation.ThingOperation.{ThingOperation}
 use Rattle.network_consumer.specs.Answers.{is_success}
-use Rattle.network_consumer.specs.Consuming.{Consumes, input_of}
-use Rattle.network_consumer.specs.Deeds.{Deed, printed, text_in}
+use Rattle.network_consumer.specs.Consuming.{input_of}
+use Rattle.network_consumer.specs.Deeds.{Deed}
 use Rattle.description_laws.proofs.Members.{each_of}
 use Rattle.consumer_laws.specs.Asking.{request_for}
 use Rattle.consumer_laws.specs.Choosing.{IsItsAct, IsWhatWasChosen}

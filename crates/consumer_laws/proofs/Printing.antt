@@ -1,14 +1,12 @@
 -- What an operation over HTTP prints is the payload of the reply that comes, or nothing. The types of a wait and of a
 -- verdict aren't named: their crate doesn't export them.
-use Rattle.std.proofs.Common.{◌≡◌, ◌≢◌, ℕ, zero, suc, Bool, true, false, List, [], ◌∷◌, ◌++◌, append_assoc, append-nil, Option, Some, None, inl, inr, refl, sym, ap, ap₂, subst, ◌∙◌}
+use Rattle.std.proofs.Common.{◌≡◌, ◌≢◌, ℕ, Bool, true, false, List, [], ◌∷◌, ◌++◌, append_assoc, append-nil, Option, Some, None, inl, inr, refl, sym, ap, ap₂, subst, ◌∙◌}
 use Rattle.std.specs.Prelude.{◌⊎◌, nat_le, unwrap_or, if◌then◌else◌}
 use Rattle.http_replies.specs.declared.reply_scan.ReplyScan.{ReplyScan}
 use Rattle.http_replies.specs.declared.reply_scan.ReplyScan.TheVariants as scan
-use Rattle.http_replies.specs.ReplyFronts.{IsReply}
 use Rattle.http_replies.proofs.OneReply.{at_most_one_reply}
 use Rattle.servient_outside.specs.declared.net.EventWithBytes.{EventWithBytes}
-use Rattle.servient_outside.specs.declared.net.Dialled.TheVariants as dialled
-use Rattle.servient_outside.specs.Network.{Happening, heard, did, broke, next_event, dials_as}
+use Rattle.servient_outside.specs.Network.{heard}
 use Rattle.wot_forms.specs.declared.scheme.Scheme.{Scheme}
 use Rattle.wot_forms.specs.declared.scheme.Scheme.TheVariants as scheme
 use Rattle.wot_consumer.specs.declared.chosen.Chosen.{Chosen}
@@ -20,8 +18,8 @@ use Rattle.network_consumer.specs.declared.consumed.Status.TheVariants as status
 use Rattle.network_consumer.specs.declared.operation.ThingOperation.{ThingOperation}
 use Rattle.network_consumer.specs.Answers.{is_success, ValueComesTo, unread, not_taken, taken, value_memory, SucceedsAs, AnswersAs, no_success, success, answer_memory, Closes, short_of, ScansAs, ReceivesAs}
 use Rattle.network_consumer.specs.Consuming.{AsksByHttp, not_dialled, dial_memory, request_memory, is_sent, AsksBy, AsksOrNot, body_memory, has_body, Consumes, is_refused, input_memory, is_done}
-use Rattle.network_consumer.specs.Deeds.{Deed, happens, prints, happen, happened_in, printed, text_in}
-use Rattle.network_consumer.specs.HttpWaiting.{bytes_on, waiting_on, after_event, deadline, at_deadline, Brings, bytes_came, has_ended, has_stopped, is_of_another, event_memory, EndsOrWaits, has_come, has_not_come}
+use Rattle.network_consumer.specs.Deeds.{Deed, happens, happened_in, printed, text_in}
+use Rattle.network_consumer.specs.HttpWaiting.{bytes_on, waiting_on, after_event, deadline, Brings, bytes_came, has_ended, has_stopped, is_of_another, event_memory, EndsOrWaits, has_come, has_not_come}
 use Rattle.network_consumer.specs.Waiting.{Hears, by_http, by_coap, Awaits, is_spent, is_broken, comes_to, goes_on}
 use Rattle.consumer_laws.specs.Consuming.{heard_on, BringsOnly, PrintsItAlone, RepliesAreWhatIsPrinted}
 use Rattle.consumer_laws.specs.Replying.{AreReadBack}
@@ -248,7 +246,7 @@ module _ (o : ThingOperation) (c : Chosen) (deeds : List Deed) (r : Consumed) (w
         let heard_is : heard_on k (happened_in deeds) ≡ heard_on k (happened_in rest) = ap (λ (ds : List Deed). heard_on k (happened_in ds)) is in
         let part = brings k in
         let said = walk o c r k written payload number read p succeeds _ _ [] part.0 rest later
-        (λ e by_it res v h. elim h as (λ g. AtOf o c r k written payload number read p succeeds [] _ e by_it res v g) [ | by_http y same hears next ↦ (let is_it : y ≡ waiting_on k = cc in rw is_it (refl, refl)) | by_coap y z same hears at ↦ absurd cc ])
+        (λ e by_it res v h. elim h as (λ g. AtOf o c r k written payload number read p succeeds [] _ e by_it res v g) [ by_http y same hears next ↦ (let is_it : y ≡ waiting_on k = cc in rw is_it (refl, refl)) | by_coap y z same hears at ↦ absurd cc ])
         (ap (λ (s : List ℕ). s ++ part.0) (sym heard_is) ∙ part.1) in
         record {
           heard = λ done. (k, heard_is ∙ said.all done);

@@ -87,8 +87,8 @@ pub record IsBetween (c : Chosen) (input : Option (List ℕ)) (outcome : Outcome
   pub brings : BringsOnly deeds written
   pub later : taken ≡ [] → (k : ℕ) → heard_on k (happened_in deeds) ≡ []
 
--- The operation is asked for by its act, which is asked for at most once, and exactly once where it ends as done; then it was
--- a success, and what it came to is printed and nothing else. However else it ends, nothing is printed, unless the output
+-- The operation is asked for by its act. A servient takes just that request or none, and takes it where the operation ends
+-- as done; then its outcome is a success, and the payload of that is printed and nothing else. However else it ends, nothing is printed, unless the output
 -- failed.
 pub record DoesItOnce (site : Site) (thing : ExposedThing) (o : ThingOperation) (c : Chosen) (input : Option (List ℕ)) (outcome : Outcome) (taken : List RequestSeen) (deeds : List Deed) (r : Consumed) : Type 0 where
   pub its_act : IsItsAct site thing o.op o.name.now c

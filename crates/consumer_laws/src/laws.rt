@@ -16,7 +16,7 @@ pub fn requests_are_what_was_chosen()
 {}
 
 /// A reply over HTTP to a request other than HEAD, of at most 65,536 bytes, is read by `scan_reply` as its status and
-/// payload, whether its connection stays or ends.
+/// payload, whether its connection stays or ends. A part of it is read as a reply that isn't whole yet.
 pub fn replies_are_read_back()
     ensures { RepliesAreReadBack }
 {}
@@ -28,20 +28,21 @@ pub fn outputs_are_taken()
     ensures { OutputsAreTaken }
 {}
 
-/// An operation over HTTP, over a network that brings no bytes but those of one reply, in any pieces: it prints the
-/// payload of that reply and ends as done, where it heard the whole reply and its status is a success; or else it prints
-/// nothing, unless the output fails.
+/// An operation over HTTP, over a network that brings no bytes but those of one reply, in any pieces: it ends as done only
+/// where it heard the whole reply and its status is a success, and then the payload of that reply is printed and nothing
+/// else. Else nothing is printed, unless the output fails.
 pub fn replies_are_what_is_printed()
     ensures { RepliesAreWhatIsPrinted }
 {}
 
-/// An operation over HTTP by the description of a derived Thing asks for the act of that operation, at most once, whatever
-/// is lost and in whatever pieces it comes. Where it ends as done, a servient took exactly that request, once, its
-/// outcome was a success, and what it came to is printed and nothing else. Else nothing is printed, unless the output
-/// fails.
+/// An operation over HTTP by the description of a derived Thing asks for the act of that operation, and a servient takes
+/// exactly that request or none, whatever is lost and in whatever pieces it comes. Where the operation ends as done the
+/// request was taken, once, its outcome is a success, and the payload of that outcome is printed and nothing else. Else
+/// nothing is printed, unless the output fails.
 ///
 /// It is asked what `requests_are_what_was_chosen` asks, that the network brings no bytes but those that were sent, and
-/// that the reply has at most 65,536 bytes.
+/// that the reply has at most 65,536 bytes. It isn't said that an operation ends as done, nor which outcome a request
+/// comes to: that is the servient's.
 pub fn consuming_does_what_is_described()
     ensures { ConsumingDoesWhatIsDescribed }
 {}

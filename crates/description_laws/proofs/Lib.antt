@@ -1,15 +1,15 @@
-mod EncodedBytes
-mod Targets
-mod Members
-mod Generation
+pub mod EncodedBytes
+pub mod Targets
+pub mod Members
+pub mod Generation
 mod Places
-mod Paths
+pub mod Paths
 mod Forms
-mod AffordanceForms
+pub mod AffordanceForms
 mod RootForms
-mod OneThing
-mod Things
-mod Leading
+pub mod OneThing
+pub mod Things
+pub mod Leading
 mod RouteForms
 mod Saying
 mod ValidObjects

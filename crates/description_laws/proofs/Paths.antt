@@ -73,7 +73,7 @@ abbrev pub url_of : List ℕ → List (List ℕ) → List ℕ
 url_of base [] = base
 url_of base (part ∷ parts) = url_of (base ++ codes "/" ++ part) parts
 
-url_is : (base : List ℕ) (parts : List (List ℕ)) → url_of base parts ≡ base ++ slashed parts
+pub url_is : (base : List ℕ) (parts : List (List ℕ)) → url_of base parts ≡ base ++ slashed parts
 url_is base [] = sym (append-nil base)
 url_is base (part ∷ parts) =
     url_is (base ++ codes "/" ++ part) parts

@@ -40,7 +40,7 @@ parts_of part (next ∷ parts) inside others =
 
 -- ---- no query
 
-abbrev HasNoMark : List ℕ → Type 0
+abbrev pub HasNoMark : List ℕ → Type 0
 HasNoMark bytes = AllByRecursion (λ b. b ≢ 63) bytes
 
 both_without : (xs ys : List ℕ) → HasNoMark xs → HasNoMark ys → HasNoMark (xs ++ ys)
@@ -51,11 +51,11 @@ inside_has_none : (bytes : List ℕ) → AllByRecursion IsInside bytes → HasNo
 inside_has_none [] inside = tt
 inside_has_none (b ∷ bytes) inside = (inside.0.1, inside_has_none bytes inside.1)
 
-slashed_has_none : (parts : List (List ℕ)) → AreParts parts → HasNoMark (slashed parts)
+pub slashed_has_none : (parts : List (List ℕ)) → AreParts parts → HasNoMark (slashed parts)
 slashed_has_none [] are = tt
 slashed_has_none (part ∷ parts) are = (omega arith, both_without part (slashed parts) (inside_has_none part are.0) (slashed_has_none parts are.1))
 
-no_mark : (bytes : List ℕ) → HasNoMark bytes → position_or_len (λ b. b == 63) bytes ≡ length bytes
+pub no_mark : (bytes : List ℕ) → HasNoMark bytes → position_or_len (λ b. b == 63) bytes ≡ length bytes
 no_mark [] none = refl
 no_mark (b ∷ bytes) none = rw isnt (one_more (position_or_len (λ x. x == 63) bytes) (length bytes) (no_mark bytes none.1))
   where

@@ -27,11 +27,9 @@ mod RefusedRequests
 mod AlikeRuns
 mod UntouchedLaws
 mod PayloadLaws
-mod HeadLines
 mod SpokenTargets
 mod SpokenOptions
 mod SpokenByCoap
-mod SpokenBytes
 mod SpokenTags
 mod SpokenHeads
 mod SpokenByHttp

@@ -30,10 +30,10 @@ use Rattle.thing_ops.specs.declared.request.Format.{Format}
 use Rattle.thing_ops.specs.declared.conditions.Conditions.{Conditions}
 use Rattle.thing_ops.specs.Requests.{RequestSeen}
 use Rattle.servient_laws.specs.Spoken.{MayBeAsked, method_of, target_of, header_lines, lines_for, http_head, http_message, IsReadByHttp, IsSpeakable}
-use Rattle.servient_laws.proofs.HeadLines.{AreLines, printed, lines_end, feeds_of_lines, lines_paired}
+use Rattle.consumer_laws.proofs.HeadLines.{AreLines, printed, lines_end, feeds_of_lines, lines_paired}
 use Rattle.servient_laws.proofs.SpokenTargets.{target_bytes, no_query, path_is_read}
-use Rattle.servient_laws.proofs.SpokenHeads.{IsSize, is_size, Says, says_behind, asks_nothing, start_line, lines_in, head_lines, head_is, start_is_line, header_are, request_head}
-use Rattle.servient_laws.proofs.SpokenBytes.{digits_pass, field_of, fields, line_of}
+use Rattle.servient_laws.proofs.SpokenHeads.{Says, says_behind, asks_nothing, start_line, lines_in, head_lines, head_is, start_is_line, header_are, request_head}
+use Rattle.consumer_laws.proofs.HeadBytes.{digits_pass, field_of, fields, line_of, IsSize, is_size}
 use Rattle.servient_laws.proofs.SpokenTags.{conditions_read}
 
 -- ---- how it is judged
@@ -157,7 +157,7 @@ taken q m bytes isnt query may =
 
 pub read_by_http : (q : RequestSeen) → IsSpeakable q → IsReadByHttp q
 read_by_http q can =
-    let size = is_size (length q.body) can.body in
+    let size = is_size (length q.body) (omega (arith, can.body)) in
     let head = printed (head_lines q) in
     let message : http_message q ≡ head ++ q.body = ap (λ (x : List ℕ). x ++ q.body) (head_is q) in
     let none_skipped : skipped (head ++ q.body) ≡ head ++ q.body =

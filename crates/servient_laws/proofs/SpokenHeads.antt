@@ -24,32 +24,10 @@ use Rattle.thing_ops.specs.declared.request.Format.TheVariants as format
 use Rattle.thing_ops.specs.Requests.{RequestSeen}
 use Rattle.thing_ops.specs.declared.conditions.Conditions.{Conditions}
 use Rattle.servient_laws.specs.Spoken.{MayBeAsked, method_of, target_of, type_lines, accept_lines, header_lines, condition_lines, lines_for, http_head}
-use Rattle.servient_laws.proofs.SpokenBytes.{both_all, passes, all_pass, weaker, plain, is_plain, plain_bytes, digits_pass, trims_nothing, field_of, fields, line_of, lines_all, token, IsGood, good, good_all}
+use Rattle.consumer_laws.proofs.HeadBytes.{both_all, passes, all_pass, weaker, plain, is_plain, plain_bytes, digits_pass, trims_nothing, field_of, fields, line_of, lines_all, token, IsGood, good, good_all, good_fields, section_is, IsSize}
 use Rattle.servient_laws.proofs.SpokenTags.{conditions_are_lines, good_conditions, read_under, other_conditions}
-use Rattle.servient_laws.proofs.HeadLines.{IsPlain, IsLine, AreLines, printed}
+use Rattle.consumer_laws.proofs.HeadLines.{IsPlain, IsLine, AreLines, printed}
 use Rattle.servient_laws.proofs.SpokenTargets.{IsTargetByte, target_bytes}
-
--- ---- sizes
-
-pub record IsSize (n : ℕ) : Type 0 where
-  pub some : 0 < length (decimal n)
-  pub value : digits_value 10 (decimal n) ≡ n
-  pub digits : AllDigits 10 (decimal n)
-  pub trimmed : trim_ows (decimal n) ≡ decimal n
-
-pub is_size : (n : ℕ) → n ≤ longest_body → IsSize n
-is_size n short =
-    let fits : n < 2 ^ 64 = omega (arith, short) in
-    let numeral = decimal_is_IsNumeral n fits in
-    record {
-      some = numeral.0.0;
-      value = numeral.1;
-      digits = numeral.0.1;
-      trimmed = trims_nothing (decimal n) (all_pass (λ b. not (is_ows b)) (decimal n) (digits_pass (λ b. not (is_ows b)) (decimal n) unspaced numeral.0.1));
-    }
-  where
-    unspaced : (c : ℕ) → 48 ≤ c → c ≤ 57 → not (is_ows c) ≡ true
-    unspaced c low high = grind (arith, nat_tests)
 
 -- ---- what the header lines say
 
@@ -136,13 +114,6 @@ lines_in q = lines_for q
 
 abbrev pub head_lines : RequestSeen → List (List ℕ)
 head_lines q = start_line q ∷ map line_of (lines_in q)
-
-section_is : (lines : List (List ℕ × List ℕ)) → print_section (fields lines) crlf ≡ printed (map line_of lines)
-section_is [] = refl
-section_is (l ∷ lines) =
-    append_assoc (line_of l ++ 13 ∷ 10 ∷ []) (flat_map print_field (fields lines)) (13 ∷ 10 ∷ [])
-    ∙ append_assoc (line_of l) (13 ∷ 10 ∷ []) (print_section (fields lines) crlf)
-    ∙ ap (λ (x : List ℕ). line_of l ++ 13 ∷ 10 ∷ x) (section_is lines)
 
 pub head_is : (q : RequestSeen) → print_request (http_head q) ≡ printed (head_lines q)
 unfolding print_request
@@ -252,10 +223,6 @@ good_lines f json td n size = (
     good_all (type_lines f) (accept_lines json td) (good_types f) (good_accepts json td),
   ),
 )
-
-good_fields : (lines : List (List ℕ × List ℕ)) → AllByRecursion IsGood lines → AllByRecursion IsField (fields lines)
-good_fields [] all = tt
-good_fields (l ∷ lines) all = (all.0, good_fields lines all.1)
 
 uri_bytes : (bytes : List ℕ) → AllByRecursion IsTargetByte bytes → AllByRecursion (λ b. IsTrue (is_uri_byte b)) bytes
 uri_bytes bytes all = weaker IsTargetByte (λ b. IsTrue (is_uri_byte b)) bytes is_uri all

@@ -21,8 +21,8 @@ use Rattle.http_replies.specs.Writing.{entity_tag}
 use Rattle.http_fields.specs.Fields.{trimmed, values_of}
 use Rattle.http_wire.proofs.EntityTags.{tags_are_read_again}
 use Rattle.servient_laws.specs.Spoken.{IsVersion, IsSaidByBoth, MayBeAsked, tag_lines, match_lines, absent_lines, condition_lines}
-use Rattle.servient_laws.proofs.HeadLines.{IsPlain, IsLine, AreLines}
-use Rattle.servient_laws.proofs.SpokenBytes.{both_all, passes, all_pass, is_plain, plain, plain_bytes, digits_pass, trims_nothing, field_of, fields, line_of, lines_all, IsGood, good, good_all}
+use Rattle.consumer_laws.proofs.HeadLines.{IsPlain, IsLine, AreLines}
+use Rattle.consumer_laws.proofs.HeadBytes.{both_all, passes, all_pass, is_plain, plain, plain_bytes, digits_pass, trims_nothing, field_of, fields, line_of, lines_all, IsGood, good, good_all}
 
 -- ---- a tag
 

@@ -1,15 +1,17 @@
--- Bytes, digits and header lines of the HTTP message that says a request.
-use Rattle.std.proofs.Common.{◌≡◌, ◌≢◌, ◌<◌, ◌≤◌, ℕ, Bool, true, false, not, List, [], ◌∷◌, ◌++◌, length, map, reverse, refl, ap, ap₂, ◌∙◌, arith}
-use Rattle.std.specs.Prelude.{◌==◌, ◌&&◌, IsTrue}
-use Rattle.std.specs.List.{AllByRecursion, list_all}
-use Rattle.std.specs.Str.Parse.{AllDigits}
+-- Bytes, digits and header lines of an HTTP message that is written.
+use Rattle.std.proofs.Common.{◌≡◌, ◌≢◌, ◌<◌, ◌≤◌, ◌^◌, ℕ, Bool, true, false, not, List, [], ◌∷◌, ◌++◌, append_assoc, length, map, reverse, refl, ap, ap₂, ◌∙◌, arith}
+use Rattle.std.specs.Prelude.{◌==◌, ◌&&◌, decimal, IsTrue}
+use Rattle.std.specs.List.{AllByRecursion, flat_map, list_all}
+use Rattle.std.specs.Str.Parse.{AllDigits, digits_value}
 use Rattle.std.proofs.lemmas.Bool.Decides.{nat_tests}
+use Rattle.std.proofs.lemmas.Fmt.{decimal_is_IsNumeral}
 use Rattle.std.proofs.lemmas.List.{reverse-reverse}
 use Rattle.std.proofs.lemmas.List.Elements.{All-from_recursion, All-head}
 use Rattle.std.proofs.lemmas.Str.Parse.{digit_at}
-use Rattle.httparse.specs.Grammar.{is_token_byte, is_value_byte, is_ows, AllPass, IsToken, Field, IsField, crlf, skip_ows, trim_ows}
+use Rattle.httparse.specs.Grammar.{is_token_byte, is_value_byte, is_ows, AllPass, IsToken, Field, IsField, crlf, skip_ows, trim_ows, print_field, print_section}
 use Rattle.httparse.proofs.TrimLemmas.{AllPass-reverse}
-use Rattle.servient_laws.proofs.HeadLines.{IsPlain, IsLine, AreLines}
+use Rattle.consumer_laws.specs.Asking.{IsVisible}
+use Rattle.consumer_laws.proofs.HeadLines.{IsPlain, AreLines, printed}
 
 -- ---- tests of bytes
 
@@ -111,3 +113,58 @@ good name value some named valued = record { name = token name some named; raw =
 pub good_all : (a b : List (List ℕ × List ℕ)) → AllByRecursion IsGood a → AllByRecursion IsGood b → AllByRecursion IsGood (a ++ b)
 good_all [] b p q = q
 good_all (l ∷ a) b p q = (p.0, good_all a b p.1 q)
+
+-- a line that is printed, behind it the rest
+pub one_line : (line rest : List ℕ) → (line ++ 13 ∷ 10 ∷ []) ++ rest ≡ line ++ 13 ∷ 10 ∷ rest
+one_line line rest = append_assoc line (13 ∷ 10 ∷ []) rest
+
+pub section_is : (lines : List (List ℕ × List ℕ)) → print_section (fields lines) crlf ≡ printed (map line_of lines)
+section_is [] = refl
+section_is (l ∷ lines) =
+    append_assoc (line_of l ++ 13 ∷ 10 ∷ []) (flat_map print_field (fields lines)) (13 ∷ 10 ∷ [])
+    ∙ append_assoc (line_of l) (13 ∷ 10 ∷ []) (print_section (fields lines) crlf)
+    ∙ ap (λ (x : List ℕ). line_of l ++ 13 ∷ 10 ∷ x) (section_is lines)
+
+pub good_fields : (lines : List (List ℕ × List ℕ)) → AllByRecursion IsGood lines → AllByRecursion IsField (fields lines)
+good_fields [] all = tt
+good_fields (l ∷ lines) all = (all.0, good_fields lines all.1)
+
+-- ---- sizes
+
+-- a number in decimal is read as it is, and is digits alone
+pub record IsSize (n : ℕ) : Type 0 where
+  pub some : 0 < length (decimal n)
+  pub value : digits_value 10 (decimal n) ≡ n
+  pub digits : AllDigits 10 (decimal n)
+  pub trimmed : trim_ows (decimal n) ≡ decimal n
+
+pub is_size : (n : ℕ) → n < 2 ^ 64 → IsSize n
+is_size n fits =
+    let numeral = decimal_is_IsNumeral n fits in
+    record {
+      some = numeral.0.0;
+      value = numeral.1;
+      digits = numeral.0.1;
+      trimmed = trims_nothing (decimal n) (all_pass (λ b. not (is_ows b)) (decimal n) (digits_pass (λ b. not (is_ows b)) (decimal n) unspaced numeral.0.1));
+    }
+  where
+    unspaced : (c : ℕ) → 48 ≤ c → c ≤ 57 → not (is_ows c) ≡ true
+    unspaced c low high = grind (arith, nat_tests)
+
+pub digit_is_plain : (c : ℕ) → 48 ≤ c → c ≤ 57 → plain c ≡ true
+digit_is_plain c low high = grind (arith, nat_tests)
+
+pub digit_is_value : (c : ℕ) → 48 ≤ c → c ≤ 57 → is_value_byte c ≡ true
+digit_is_value c low high = grind (arith, nat_tests)
+
+-- ---- visible characters
+
+pub visible_is_plain : (bytes : List ℕ) → AllByRecursion IsVisible bytes → AllByRecursion IsPlain bytes
+visible_is_plain bytes all = weaker IsVisible IsPlain bytes (λ b seen. (λ same. omega (arith, seen.0, same), λ same. omega (arith, seen.0, same))) all
+
+pub visible_value : (bytes : List ℕ) → AllByRecursion IsVisible bytes → list_all is_value_byte bytes ≡ true
+visible_value [] all = refl
+visible_value (b ∷ bytes) all = ap₂ (λ (x y : Bool). x && y) (one b all.0.0 all.0.1) (visible_value bytes all.1)
+  where
+    one : (c : ℕ) → 33 ≤ c → c ≤ 126 → is_value_byte c ≡ true
+    one c low high = grind (arith, nat_tests)

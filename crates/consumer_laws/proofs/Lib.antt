@@ -1,0 +1,14 @@
+pub mod HeadLines
+pub mod HeadBytes
+mod Targets
+mod RequestHeads
+mod RequestsRead
+mod Pieces
+mod GeneratedForms
+mod Choices
+mod WhatWasChosen
+mod ReplyHeads
+mod RepliesRead
+mod Outputs
+mod Printing
+mod Consuming

@@ -2,9 +2,10 @@
 //! the shipped rack over TCP and UDP, and prints the replies, and the end of the child once no traffic came for five
 //! seconds. Meanwhile a child asks it over CoAP for its Things, and further children consume the one: one writes the
 //! property over CoAP, and two read it, over CoAP and over HTTP; three write a text of 1,000 bytes each, and one reads
-//! all properties, which come in blocks. Then a child that may open no more than 24 files is spoken to beside 30
-//! connections that do nothing. Last a child checks a Thing Description without a `title`, which ends with a status
-//! that isn't 0.
+//! all properties, which come in blocks. By the description that is derived, each affordance is consumed over HTTP: each
+//! property is written and read, the action is invoked, and all properties are read. Then a child that may open no more
+//! than 24 files is spoken to beside 30 connections that do nothing. Last a child checks a Thing Description without a
+//! `title`, which ends with a status that isn't 0.
 //!
 //! With words of its own it is the servient; without any it is the run.
 #![tactic(auto)]
@@ -35,7 +36,7 @@ const PATIENCE: u64 = 10;
 
 /// The model of the Thing that is served.
 const MODEL: &str =
-    "{\"@context\":\"https://www.w3.org/2022/wot/td/v1.1\",\"@type\":\"tm:ThingModel\",\"title\":\"Lamp\",\"properties\":{\"level\":{\"type\":\"integer\"},\"a\":{\"type\":\"string\"},\"b\":{\"type\":\"string\"},\"c\":{\"type\":\"string\"}}}";
+    "{\"@context\":\"https://www.w3.org/2022/wot/td/v1.1\",\"@type\":\"tm:ThingModel\",\"title\":\"Lamp\",\"properties\":{\"level\":{\"type\":\"integer\"},\"a\":{\"type\":\"string\"},\"b\":{\"type\":\"string\"},\"c\":{\"type\":\"string\"}},\"actions\":{\"fade\":{\"input\":{\"type\":\"integer\"},\"output\":{\"type\":\"integer\"}}}}";
 
 /// The number of bytes of each of the texts.
 const TEXT_BYTES: u32 = 1000;
@@ -146,7 +147,7 @@ fn free_udp_port(rt: &HostRuntime) -> io::Result<u16> {
 /// The plan of one Thing at these ports, whose property is a cell of the shipped rack.
 fn plan(rt: &HostRuntime, http: u16, coap: u16) -> io::Result<String> {
     Ok(format!(in rt.alloc();
-        "{{\"name\":\"lamp\",\"id\":\"urn:x:lamp\",\"http\":\"http://127.0.0.1:{http}\",\"coap\":\"coap://127.0.0.1:{coap}\",\"model\":\"https://models.example/level.tm.json\",\"models\":[{{\"url\":\"https://models.example/level.tm.json\",\"file\":\"level.tm.json\"}}],\"slots\":[{{\"thing\":\"lamp\",\"pointer\":\"/properties/level\",\"slot\":0}},{{\"thing\":\"lamp\",\"pointer\":\"/properties/a\",\"slot\":2}},{{\"thing\":\"lamp\",\"pointer\":\"/properties/b\",\"slot\":6}},{{\"thing\":\"lamp\",\"pointer\":\"/properties/c\",\"slot\":10}}]}}"
+        "{{\"name\":\"lamp\",\"id\":\"urn:x:lamp\",\"http\":\"http://127.0.0.1:{http}\",\"coap\":\"coap://127.0.0.1:{coap}\",\"model\":\"https://models.example/level.tm.json\",\"models\":[{{\"url\":\"https://models.example/level.tm.json\",\"file\":\"level.tm.json\"}}],\"slots\":[{{\"thing\":\"lamp\",\"pointer\":\"/properties/level\",\"slot\":0}},{{\"thing\":\"lamp\",\"pointer\":\"/properties/a\",\"slot\":2}},{{\"thing\":\"lamp\",\"pointer\":\"/properties/b\",\"slot\":6}},{{\"thing\":\"lamp\",\"pointer\":\"/properties/c\",\"slot\":10}},{{\"thing\":\"lamp\",\"pointer\":\"/actions/fade\",\"slot\":32}}]}}"
     )?)
 }
 
@@ -244,7 +245,8 @@ fn consume(rt: &HostRuntime, http: u16, coap: u16) -> io::Result<()> {
     consumer(rt, "writeproperty", "level", by_coap)?;
     consumer(rt, "readproperty", "level", &["--scheme", "coap"])?;
     consumer(rt, "readproperty", "level", &["--scheme", "http"])?;
-    consume_texts(rt)
+    consume_texts(rt)?;
+    consume_derived(rt)
 }
 
 /// Has long texts written, and all properties read.
@@ -254,6 +256,28 @@ fn consume_texts(rt: &HostRuntime) -> io::Result<()> {
         consumer(rt, "writeproperty", name, &["--input", "text.json"])?;
     }
     consumer(rt, "readallproperties", "-", &[])
+}
+
+/// Has each affordance consumed over HTTP by the description that is derived.
+fn consume_derived(rt: &HostRuntime) -> io::Result<()> {
+    let derived = servient(rt, &["derive", "level.plan.json"])?.output(rt)?;
+    fs::write(rt, "level.td.json", derived.stdout.as_slice())?;
+    fs::write(rt, "eight.json", "8")?;
+    fs::write(rt, "on.json", "\"on\"")?;
+    write_and_read(rt, "level", "eight.json")?;
+    for name in ["a", "b", "c"] {
+        write_and_read(rt, name, "on.json")?;
+    }
+    let input = &["--scheme", "http", "--input", "eight.json"];
+    consumer(rt, "invokeaction", "fade", input)?;
+    consumer(rt, "readallproperties", "-", &["--scheme", "http"])
+}
+
+/// Has a property written and read over HTTP.
+fn write_and_read(rt: &HostRuntime, name: &str, file: &str) -> io::Result<()> {
+    let input = &["--scheme", "http", "--input", file];
+    consumer(rt, "writeproperty", name, input)?;
+    consumer(rt, "readproperty", name, &["--scheme", "http"])
 }
 
 /// A long text, as JSON.

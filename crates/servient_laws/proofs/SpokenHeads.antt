@@ -1,22 +1,18 @@
 -- The head of the HTTP message that says a request: it is a head by the grammar, and its lines say what the request
 -- says.
-use Rattle.std.proofs.Common.{◌≡◌, ◌≢◌, ◌<◌, ◌≤◌, ◌^◌, ℕ, Bool, true, false, not, List, [], ◌∷◌, ◌++◌, append_assoc, length, map, reverse, refl, ap, ap₂, ◌∙◌, arith}
-use Rattle.std.specs.Prelude.{◌==◌, ◌&&◌, codes, decimal, IsTrue}
-use Rattle.std.specs.List.{AllByRecursion, list_all, list_any, flat_map}
+use Rattle.std.proofs.Common.{◌≡◌, ◌≢◌, ◌<◌, ◌≤◌, ℕ, Bool, true, false, List, [], ◌∷◌, ◌++◌, append_assoc, length, map, refl, ap, ◌∙◌, arith}
+use Rattle.std.specs.Prelude.{codes, decimal, IsTrue}
+use Rattle.std.specs.List.{AllByRecursion, list_all, list_any}
 use Rattle.std.specs.Str.{IsAscii, str_eq_ignore_ascii_case}
-use Rattle.std.specs.Str.Parse.{AllDigits, digits_value}
 use Rattle.std.proofs.lemmas.Bool.Decides.{nat_tests}
-use Rattle.std.proofs.lemmas.Fmt.{decimal_is_IsNumeral}
-use Rattle.std.proofs.lemmas.List.{length-append, reverse-reverse}
-use Rattle.std.proofs.lemmas.List.Elements.{All-from_recursion, All-head}
+use Rattle.std.proofs.lemmas.List.{length-append}
+use Rattle.std.proofs.lemmas.List.Elements.{All-from_recursion}
 use Rattle.std.proofs.lemmas.Str.{IsUtf8-from_ascii}
 use Rattle.std.proofs.lemmas.Str.Ascii.{IsAscii-from_all}
-use Rattle.std.proofs.lemmas.Str.Parse.{digit_at}
-use Rattle.httparse.specs.Grammar.{is_token_byte, is_uri_byte, is_value_byte, is_ows, AllPass, IsToken, Field, IsField, crlf, skip_ows, trim_ows, print_field, print_section, print_request, IsRequestHead}
+use Rattle.httparse.specs.Grammar.{is_token_byte, is_uri_byte, is_value_byte, IsToken, IsField, crlf, trim_ows, print_section, print_request, IsRequestHead}
 use Rattle.httparse.specs.Spans.{name_and_value}
-use Rattle.httparse.proofs.TrimLemmas.{AllPass-reverse}
 use Rattle.http_fields.specs.Fields.{absent, once, standing, is_continue, types_taken, Said, said_by, format_of, accept_of}
-use Rattle.http_wire.specs.Judging.{is_once, is_often, longest_body}
+use Rattle.http_wire.specs.Judging.{is_once, is_often}
 use Rattle.thing_ops.specs.declared.verb.Verb.{Verb}
 use Rattle.thing_ops.specs.declared.verb.Verb.TheVariants as verb
 use Rattle.thing_ops.specs.declared.request.Format.{Format}
@@ -24,7 +20,7 @@ use Rattle.thing_ops.specs.declared.request.Format.TheVariants as format
 use Rattle.thing_ops.specs.Requests.{RequestSeen}
 use Rattle.thing_ops.specs.declared.conditions.Conditions.{Conditions}
 use Rattle.servient_laws.specs.Spoken.{MayBeAsked, method_of, target_of, type_lines, accept_lines, header_lines, condition_lines, lines_for, http_head}
-use Rattle.consumer_laws.proofs.HeadBytes.{both_all, passes, all_pass, weaker, plain, is_plain, plain_bytes, digits_pass, trims_nothing, field_of, fields, line_of, lines_all, token, IsGood, good, good_all, good_fields, section_is, IsSize}
+use Rattle.consumer_laws.proofs.HeadBytes.{both_all, weaker, plain, is_plain, plain_bytes, digits_pass, fields, line_of, lines_all, token, IsGood, good, good_all, good_fields, section_is, IsSize}
 use Rattle.servient_laws.proofs.SpokenTags.{conditions_are_lines, good_conditions, read_under, other_conditions}
 use Rattle.consumer_laws.proofs.HeadLines.{IsPlain, IsLine, AreLines, printed}
 use Rattle.servient_laws.proofs.SpokenTargets.{IsTargetByte, target_bytes}

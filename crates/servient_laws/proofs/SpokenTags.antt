@@ -1,9 +1,9 @@
 -- The header lines by which an HTTP message says what a request asks of versions.
-use Rattle.std.proofs.Common.{◌≡◌, ◌<◌, ◌≤◌, ◌-◌, ◌^◌, ℕ, Bool, true, false, List, [], ◌∷◌, ◌++◌, append-nil, append_assoc, length, map, take, reverse, Option, Some, None, refl, sym, ap, ap₂, ◌∙◌, arith, cond}
-use Rattle.std.specs.Prelude.{◌==◌, ◌&&◌, not, codes, decimal, filter_map, All, IfSome, IsTrue, if◌then◌else◌}
+use Rattle.std.proofs.Common.{◌≡◌, ◌<◌, ◌≤◌, ◌-◌, ◌^◌, ℕ, Bool, true, false, List, [], ◌∷◌, ◌++◌, append-nil, append_assoc, length, map, take, reverse, Option, Some, None, refl, sym, ap, ap₂, ◌∙◌, arith}
+use Rattle.std.specs.Prelude.{◌==◌, ◌&&◌, not, codes, decimal, filter_map, IfSome, if◌then◌else◌}
 use Rattle.std.specs.List.{AllByRecursion, list_all, list_any, flat_map, prefix_len, slice_split}
 use Rattle.std.specs.Char.{is_ascii_whitespace}
-use Rattle.std.specs.Str.{bytes_eq, str_eq_ignore_ascii_case}
+use Rattle.std.specs.Str.{str_eq_ignore_ascii_case}
 use Rattle.std.specs.Str.Parse.{AllDigits}
 use Rattle.std.proofs.lemmas.Bool.Decides.{nat_tests}
 use Rattle.std.proofs.lemmas.Fmt.{decimal_is_IsNumeral}
@@ -22,7 +22,7 @@ use Rattle.http_fields.specs.Fields.{trimmed, values_of}
 use Rattle.http_wire.proofs.EntityTags.{tags_are_read_again}
 use Rattle.servient_laws.specs.Spoken.{IsVersion, IsSaidByBoth, MayBeAsked, tag_lines, match_lines, absent_lines, condition_lines}
 use Rattle.consumer_laws.proofs.HeadLines.{IsPlain, IsLine, AreLines}
-use Rattle.consumer_laws.proofs.HeadBytes.{both_all, passes, all_pass, is_plain, plain, plain_bytes, digits_pass, trims_nothing, field_of, fields, line_of, lines_all, IsGood, good, good_all}
+use Rattle.consumer_laws.proofs.HeadBytes.{both_all, passes, all_pass, is_plain, plain, plain_bytes, digits_pass, trims_nothing, fields, line_of, lines_all, IsGood, good, good_all}
 
 -- ---- a tag
 

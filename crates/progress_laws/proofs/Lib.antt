@@ -1,0 +1,4 @@
+mod WaitingStreams
+mod WaitMoves
+mod WaitFates
+mod WaitLaws

@@ -1,0 +1,2 @@
+-- Stub.
+use Rattle.progress_laws.proofs.WaitMoves

@@ -1,4 +1,6 @@
 mod WaitingStreams
 mod WaitMoves
 mod WaitFates
+mod WaitDeliveries
+mod WaitEnds
 mod WaitLaws

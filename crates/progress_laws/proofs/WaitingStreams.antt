@@ -1,5 +1,5 @@
 -- The connections and their waits: what a change of one connection leaves of another's.
-use Rattle.std.proofs.Common.{◌≡◌, ◌≢◌, ◌<◌, ◌≤◌, ◌+◌, ◌-◌, ◌==◌, ◌||◌, ◌⊎◌, ℕ, Bool, true, false, cond, not, List, [], ◌∷◌, ◌++◌, length, filter, find, slice_index_or, slice_set, get_or, Option, Some, None, option_map, nat_le, refl, sym, ap, subst, ◌∙◌, arith, inl, inr, All, Contains}
+use Rattle.std.proofs.Common.{◌≡◌, ◌≢◌, ◌<◌, ◌≤◌, ◌+◌, ◌-◌, ◌==◌, ◌||◌, ◌⊎◌, ℕ, zero, suc, Bool, true, false, cond, not, List, [], ◌∷◌, ◌++◌, length, filter, find, slice_index_or, slice_set, get_or, Option, Some, None, option_map, nat_le, refl, sym, ap, subst, ◌∙◌, arith, inl, inr, All, Contains}
 use Rattle.std.proofs.lemmas.Bool.Decides.{nat_tests}
 use Rattle.std.proofs.lemmas.List.{get_or-set_other, get_or-set_same}
 use Rattle.std.proofs.lemmas.List.Elements.{Contains-append_right, All-contains, All-cons, All-nil, All-weaker}
@@ -41,6 +41,7 @@ pub among_of : (v : Wait) (ws : List Wait) → Contains ws v → IsAmong v ws
 among_of v ws is = All-contains (λ u. IsAmong u ws) ws v (all_among ws) is
 
 pub contains_of : (v : Wait) (ws : List Wait) → IsAmong v ws → Contains ws v
+contains_of v [] there = absurd there
 contains_of v (x ∷ ws) (inl same) = (0, omega arith, same)
 contains_of v (x ∷ ws) (inr there) = Contains-append_right (x ∷ []) ws v (contains_of v ws there)
 
@@ -55,6 +56,7 @@ among_more v x (y ∷ ws) (inr there) = by (among_more v x ws there)
     by (inr same) = inr same
 
 pub more_among : (v x : Wait) (ws : List Wait) → IsAmong v ws → IsAmong v (ws ++ x ∷ [])
+more_among v x [] there = absurd there
 more_among v x (y ∷ ws) (inl same) = inl same
 more_among v x (y ∷ ws) (inr there) = inr (more_among v x ws there)
 
@@ -65,27 +67,26 @@ last_among x (y ∷ ws) = inr (last_among x ws)
 -- one of the waits of other connections
 pub among_others : (c : ℕ) (v : Wait) (ws : List Wait) → IsAmong v (other_waits c ws) → IsAmong v ws × ((c == v.connection) ≡ false)
 among_others c v [] there = absurd there
-among_others c v (x ∷ ws) there = by (is_wait_of c x) refl there
+among_others c v (x ∷ ws) there = by (λ is. let both = among_others c v ws is in (inr both.0, both.1)) (is_wait_of c x) refl there
   where
-    behind : IsAmong v (other_waits c ws) → IsAmong v (x ∷ ws) × ((c == v.connection) ≡ false)
-    behind is = let both = among_others c v ws is in (inr both.0, both.1)
-
-    by : (t : Bool) → is_wait_of c x ≡ t → IsAmong v (cond (not t) (x ∷ other_waits c ws) (other_waits c ws)) → IsAmong v (x ∷ ws) × ((c == v.connection) ≡ false)
-    by true test is = behind is
-    by false test (inl same) = (inl same, subst (λ (y : Wait). (c == y.connection) ≡ false) same test)
-    by false test (inr is) = behind is
+    by : (IsAmong v (other_waits c ws) → IsAmong v (x ∷ ws) × ((c == v.connection) ≡ false)) → (t : Bool) → is_wait_of c x ≡ t → IsAmong v (cond (not t) (x ∷ other_waits c ws) (other_waits c ws)) → IsAmong v (x ∷ ws) × ((c == v.connection) ≡ false)
+    by behind true test is = behind is
+    by behind false test (inl same) = (inl same, subst (λ (y : Wait). (c == y.connection) ≡ false) same test)
+    by behind false test (inr is) = behind is
 
 pub others_among : (c : ℕ) (v : Wait) (ws : List Wait) → IsAmong v ws → (c == v.connection) ≡ false → IsAmong v (other_waits c ws)
-others_among c v (x ∷ ws) there isnt = by (is_wait_of c x) refl there
+others_among c v [] there isnt = absurd there
+others_among c v (x ∷ ws) there isnt = by (λ is. others_among c v ws is isnt) (is_wait_of c x) refl there
   where
-    by : (t : Bool) → is_wait_of c x ≡ t → IsAmong v (x ∷ ws) → IsAmong v (cond (not t) (x ∷ other_waits c ws) (other_waits c ws))
-    by true test (inl same) = absurd (isnt_both (c == x.connection) test (subst (λ (y : Wait). (c == y.connection) ≡ false) (sym same) isnt))
-    by true test (inr is) = others_among c v ws is isnt
-    by false test (inl same) = inl same
-    by false test (inr is) = inr (others_among c v ws is isnt)
+    by : (IsAmong v ws → IsAmong v (other_waits c ws)) → (t : Bool) → is_wait_of c x ≡ t → IsAmong v (x ∷ ws) → IsAmong v (cond (not t) (x ∷ other_waits c ws) (other_waits c ws))
+    by behind true test (inl same) = absurd (isnt_both (c == x.connection) test (subst (λ (y : Wait). (c == y.connection) ≡ false) (sym same) isnt))
+    by behind true test (inr is) = behind is
+    by behind false test (inl same) = inl same
+    by behind false test (inr is) = inr (behind is)
 
 -- whether a connection waits, and who does
 pub is_waiting_of : (v : Wait) (ws : List Wait) → IsAmong v ws → is_waiting v.connection ws ≡ true
+is_waiting_of v [] there = absurd there
 is_waiting_of v (x ∷ ws) (inl same) = ahead (is_wait_of v.connection x) (let e : x.connection ≡ v.connection = ap (λ (y : Wait). y.connection) same in grind (arith, nat_tests))
   where
     ahead : (t : Bool) → t ≡ true → (t || is_waiting v.connection ws) ≡ true
@@ -121,19 +122,20 @@ pub record Oldest (test : Wait → Bool) (d : ℕ) (ws : List Wait) : Type 0 whe
 
 pub oldest_is : (test : Wait → Bool) (d : ℕ) (ws : List Wait) → oldest test ws ≡ Some d → Oldest test d ws
 oldest_is test d [] is = absurd (let e : None ≡ Some d = is in cc)
-oldest_is test d (x ∷ ws) is = by (test x) refl is
+oldest_is test d (x ∷ ws) is = by (oldest_is test d ws) (test x) refl is
   where
-    by : (t : Bool) → test x ≡ t → option_map (λ v. v.connection) (cond t (Some x) (find test ws)) ≡ Some d → Oldest test d (x ∷ ws)
-    by true passes same = record { wait = x; there = inl refl; connection = same_Some x.connection d same; passes = passes }
-    by false passes rest = let o = oldest_is test d ws rest in record { wait = o.wait; there = inr o.there; connection = o.connection; passes = o.passes }
+    by : (oldest test ws ≡ Some d → Oldest test d ws) → (t : Bool) → test x ≡ t → option_map (λ v. v.connection) (cond t (Some x) (find test ws)) ≡ Some d → Oldest test d (x ∷ ws)
+    by behind true passes same = record { wait = x; there = inl refl; connection = same_Some x.connection d same; passes = passes }
+    by behind false passes rest = let o = behind rest in record { wait = o.wait; there = inr o.there; connection = o.connection; passes = o.passes }
 
 pub none_oldest : (test : Wait → Bool) (v : Wait) (ws : List Wait) → oldest test ws ≡ None → IsAmong v ws → test v ≡ false
-none_oldest test v (x ∷ ws) none there = by (test x) refl none there
+none_oldest test v [] none there = absurd there
+none_oldest test v (x ∷ ws) none there = by (none_oldest test v ws) (test x) refl none there
   where
-    by : (t : Bool) → test x ≡ t → option_map (λ y. y.connection) (cond t (Some x) (find test ws)) ≡ None → IsAmong v (x ∷ ws) → test v ≡ false
-    by true passes is there = absurd (let e : Some x.connection ≡ None = is in cc)
-    by false passes is (inl same) = subst (λ (y : Wait). test y ≡ false) same passes
-    by false passes is (inr there) = none_oldest test v ws is there
+    by : (oldest test ws ≡ None → IsAmong v ws → test v ≡ false) → (t : Bool) → test x ≡ t → option_map (λ y. y.connection) (cond t (Some x) (find test ws)) ≡ None → IsAmong v (x ∷ ws) → test v ≡ false
+    by behind true passes is there = absurd (let e : Some x.connection ≡ None = is in cc)
+    by behind false passes is (inl same) = subst (λ (y : Wait). test y ≡ false) same passes
+    by behind false passes is (inr there) = behind is there
 
 -- ---- connections
 
@@ -208,9 +210,6 @@ lengthened_sound d piece now h k is s = subst IsSound (sym is) (record {
 pub begun_sound : (w : Wait) (o : Owed) (h k : Streams) → k ≡ record h { waits = other_waits w.connection h.waits ++ w ∷ [] } → Owes w.connection o h → IsSound h → IsSound k
 begun_sound w o h k is owes s = subst IsSound (sym is) (record { owed = λ v there. owed_by v (among_more v w (other_waits w.connection h.waits) there); apart = apart_by })
   where
-    after : Streams
-    after = record h { waits = other_waits w.connection h.waits ++ w ∷ [] }
-
     same_places : (c : ℕ) (p : Owed) → Owes c p h → Owes c p (record h { waits = other_waits w.connection h.waits ++ w ∷ [] })
     same_places c p one = record { connection = one.connection; is = one.is; owed = one.owed }
 

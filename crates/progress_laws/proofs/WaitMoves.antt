@@ -252,7 +252,7 @@ event_base site it s t a sound w =
     base_ends s.http.waits (max s.moment it.event.moment) step.mid t step.second
     (base_follows s.http.waits (max s.moment it.event.moment) site it.event.what it.bytes (moved s it) step.mid step.first (base_first s it sound) step.one) step.other
 
-none_sound : IsSound none_open
+pub none_sound : IsSound none_open
 none_sound = record { owed = λ v there. absurd there; apart = λ u v one other same. absurd one }
 
 pub run_sound : (site : Site) (took : List EventWithBytes) (s t : State) (a : List Sighting) → IsSound s.http → Run site took s a t → IsSound t.http

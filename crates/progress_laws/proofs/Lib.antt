@@ -4,3 +4,7 @@ mod WaitFates
 mod WaitDeliveries
 mod WaitEnds
 mod WaitLaws
+mod GoingStreams
+mod Going
+mod GoingObservers
+mod GoingEvents

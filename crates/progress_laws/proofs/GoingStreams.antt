@@ -1,5 +1,5 @@
 -- Something can be taken from a connection, or nothing is left to take.
-use Rattle.std.proofs.Common.{◌≡◌, ◌≢◌, ◌<◌, ◌≤◌, ◌+◌, ◌-◌, ◌⊎◌, ℕ, Bool, true, false, List, [], ◌∷◌, length, take, drop, Option, Some, None, Result, refl, sym, ap, subst, ◌∙◌, arith, inl, inr}
+use Rattle.std.proofs.Common.{◌≡◌, ◌≢◌, ◌<◌, ◌≤◌, ◌+◌, ◌-◌, ◌⊎◌, ℕ, Bool, true, false, List, [], ◌∷◌, length, take, drop, Option, Some, None, Result, Err, refl, sym, ap, subst, ◌∙◌, arith, inl, inr}
 use Rattle.std.proofs.lemmas.Bool.{cases_lt}
 use Rattle.httparse.specs.Grammar.{RequestHead}
 use Rattle.http_fields.specs.Marks.{line_feeds}
@@ -17,14 +17,14 @@ judged decided bytes = by_lines (cases_lt 66 (line_feeds bytes))
   where
     by_head : line_feeds bytes ≤ 66 → are_paired 0 bytes ≡ true → ((h : RequestHead) × IsHead bytes h) ⊎ ((h : RequestHead) → ¬ (IsHead bytes h)) → (r : Result FramedHead ℕ) × IsJudged bytes r
     by_head few paired (inl (h, is)) = (with_framing h (fields_judged (is_newer h) (said_by (lines_of h))), one_head h few paired is refl)
-    by_head few paired (inr none) = (_, no_head few paired none refl)
+    by_head few paired (inr none) = (Err 400, no_head few paired none refl)
 
     by_pairs : line_feeds bytes ≤ 66 → (t : Bool) → are_paired 0 bytes ≡ t → (r : Result FramedHead ℕ) × IsJudged bytes r
     by_pairs few true paired = by_head few paired (decided bytes)
-    by_pairs few false bare = (_, bare_line_end few bare refl)
+    by_pairs few false bare = (Err 400, bare_line_end few bare refl)
 
     by_lines : (66 < line_feeds bytes) ⊎ (line_feeds bytes ≤ 66) → (r : Result FramedHead ℕ) × IsJudged bytes r
-    by_lines (inl many) = (_, too_many_lines many refl)
+    by_lines (inl many) = (Err 431, too_many_lines many refl)
     by_lines (inr few) = by_pairs few (are_paired 0 bytes) refl
 
 -- bytes have a front

@@ -139,7 +139,7 @@ tells_all_late s sound = gets_until AnswersLateWait (λ state. oldest_late state
 -- ---- idle connections are closed
 
 -- the number of connections that are open
-open_in : List (Option Connection) → ℕ
+abbrev open_in : List (Option Connection) → ℕ
 open_in [] = 0
 open_in (None ∷ ps) = open_in ps
 open_in (Some x ∷ ps) = open_in ps + 1

@@ -15,14 +15,14 @@ use Rattle.coap_observe.proofs.Counts.{found_passes}
 -- ---- what is left
 
 -- the number of times for which a message may be sent again, and one more
-times_left : Option Sent → ℕ
+abbrev times_left : Option Sent → ℕ
 times_left None = 0
 times_left (Some n) = 5 - n.retransmissions
 
-left_to : Observer → ℕ
+abbrev left_to : Observer → ℕ
 left_to w = (if w.is_marked then 6 else 0) + times_left w.notification
 
-pub left_of : List Observer → ℕ
+abbrev pub left_of : List Observer → ℕ
 left_of [] = 0
 left_of (w ∷ ws) = left_to w + left_of ws
 
@@ -79,11 +79,10 @@ gives_up_all now (suc n) ws few = by (hopeless now ws) refl (λ us less. gives_u
 
 -- ---- one message is sent
 
-notice_to : Observer → ℕ → ℕ → Bool → Notice
+abbrev notice_to : Observer → ℕ → ℕ → Bool → Notice
 notice_to w id sequence fresh = record { to = w.from; token = w.token; token_length = length w.token; target = w.target; id = id; sequence = sequence; fresh = fresh }
 
 is_notice : (w : Observer) (id sequence : ℕ) (fresh : Bool) → IsNotification w id sequence fresh (notice_to w id sequence fresh)
-unfolding notice_to
 is_notice w id sequence fresh = record { to = refl; token = take_all (length w.token) w.token (omega arith); token_length = refl; target = refl; id_is = refl; sequence_is = refl; fresh_is = refl }
 
 -- a message is sent and less is left, or none is
@@ -95,19 +94,16 @@ few_times : (n : Sent) → is_exhausted n ≡ false → n.retransmissions < 4
 few_times n isnt = grind (arith, nat_tests)
 
 again_less : (now : ℕ) (w : Observer) (n : Sent) → w.notification ≡ Some n → n.retransmissions < 4 → left_to (resent now w) < left_to w
-unfolding left_to, times_left
 again_less now w n is few =
     subst (λ (o : Option Sent). left_to (record w { notification = o }) < left_to w) (sym (ap (λ (o : Option Sent). option_map (λ m. sent_again now m.id m) o) is))
     (subst (λ (o : Option Sent). (if w.is_marked then 6 else 0) + (5 - (n.retransmissions + 1)) < (if w.is_marked then 6 else 0) + times_left o) (sym is) (omega (arith, few)))
 
 renewed_less : (now id : ℕ) (w : Observer) (n : Sent) → w.is_marked ≡ true → w.notification ≡ Some n → left_to (renewed now id w) < left_to w
-unfolding left_to, times_left
 renewed_less now id w n marked is =
     subst (λ (b : Bool). left_to (renewed now id w) < (if b then 6 else 0) + times_left w.notification) (sym marked)
     (subst (λ (o : Option Sent). 0 + times_left (option_map (sent_again now id) o) < 6 + times_left o) (sym is) (omega arith))
 
 notified_less : (now id : ℕ) (w : Observer) → w.is_marked ≡ true → left_to (notified now id w) < left_to w
-unfolding left_to, times_left
 notified_less now id w marked = subst (λ (b : Bool). 0 + 5 < (if b then 6 else 0) + times_left w.notification) (sym marked) (omega arith)
 
 is_marked_of : (m b : Bool) → (m && b) ≡ true → m ≡ true

@@ -274,7 +274,7 @@ pub record Amid (from : List Wait) (now : ℕ) (w : Wait) (o : Owed) (thing : Th
   pub thing_is : u.thing ≡ thing
   pub fares : Fares w o now ds es seen u
 
-amid_step : (from : List Wait) (now : ℕ) (w : Wait) (o : Owed) (thing : ThingState) (target : ℕ) (ds : List Delivery) (seen a : List Sighting) (s t : State)
+pub amid_step : (from : List Wait) (now : ℕ) (w : Wait) (o : Owed) (thing : ThingState) (target : ℕ) (ds : List Delivery) (seen a : List Sighting) (s t : State)
     → Amid from now w o thing ds (ds ++ record { target = target; text = last_of target thing.last } ∷ []) seen s → AnswersWait target s a t
     → Amid from now w o thing ds (ds ++ record { target = target; text = last_of target thing.last } ∷ []) (seen ++ a) t
 amid_step from now w o thing target ds seen a s t amid (d, found, move) = record {

@@ -234,7 +234,7 @@ event_early site it s t seen sound w v there =
 
 run_early : (site : Site) (took : List EventWithBytes) (s t : State) (a : List Sighting) → IsSound s.http → ((v : Wait) → IsAmong v s.http.waits → is_late s.moment v ≡ false) → Run site took s a t
     → (v : Wait) → IsAmong v t.http.waits → is_late t.moment v ≡ false
-run_early site [] s t a sound early stays v there = subst (λ (x : State). is_late x.moment v ≡ false) (sym stays.next) (early v (subst (λ (x : State). IsAmong v x.http.waits) stays.next there))
+run_early site [] s t a sound early same v there = subst (λ (x : State). is_late x.moment v ≡ false) (sym same.next) (early v (subst (λ (x : State). IsAmong v x.http.waits) same.next there))
 run_early site (it ∷ took) s t a sound early w v there =
     run_early site took w.mid t w.second (event_base site it s w.mid w.first sound w.one).sound (event_early site it s w.mid w.first sound w.one) w.other v there
 

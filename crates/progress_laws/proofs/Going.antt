@@ -1,18 +1,18 @@
 -- A move is made again and again until nothing is left to do, where something falls each time; and what waits can be told.
-use Rattle.std.proofs.Common.{◌≡◌, ◌<◌, ◌≤◌, ◌+◌, ◌⊎◌, ◌++◌, ◌==◌, ℕ, zero, suc, Bool, true, false, List, [], ◌∷◌, map, length, position, slice_index_or, slice_set, Option, Some, None, refl, sym, ap, subst, ◌∙◌, arith, inl, inr}
+use Rattle.std.proofs.Common.{◌≡◌, ◌<◌, ◌+◌, ◌⊎◌, ◌++◌, ◌==◌, ℕ, zero, suc, Bool, true, false, List, [], ◌∷◌, map, length, position, slice_index_or, slice_set, Option, Some, None, refl, subst, arith, inl, inr}
 use Rattle.std.proofs.lemmas.List.Quantifiers.{position-Some}
-use Rattle.servient_base.specs.Moves.{Becomes, Then, Each, Until, is_done, goes_on}
+use Rattle.servient_base.specs.Moves.{Then, Each, Until, is_done, goes_on}
 use Rattle.http_bind.specs.declared.owed.Owed.{Owed}
 use Rattle.http_bind.specs.declared.waits.Wait.{Wait}
 use Rattle.http_bind.specs.Replying.{reply}
-use Rattle.http_bind.specs.Streams.{HttpReply, Connection, Streams, connection_at, with_connection, without_wait, other_waits, is_waiting, woken_by, after_reply, oldest_for, oldest_late, is_late, is_idle, IsIdle, NoneIdle}
+use Rattle.http_bind.specs.Streams.{HttpReply, Connection, Streams, connection_at, with_connection, without_wait, is_waiting, woken_by, after_reply, oldest_for, oldest_late, is_late, is_idle, NoneIdle}
 use Rattle.http_bind.proofs.WaitLists.{fewer_others}
 use Rattle.thing_state.specs.State.{Emission, last_of}
 use Rattle.coap_bind.specs.Server.{with_emitted}
 use Rattle.servient_outside.specs.declared.net.Act.TheVariants as act
 use Rattle.servient_trace.specs.Trace.{Sighting}
-use Rattle.servient_core.specs.Machine.{State, Move, OnCoap, acts_of_reply, RepliesToWait, AnswersWait, MarksObservers, Delivers, DeliversEach, AnswersLateWait, ClosesIdle}
-use Rattle.progress_laws.proofs.WaitingStreams.{IsAmong, Oldest, oldest_is, Owes, IsSound, cut_sound, is_waiting_of}
+use Rattle.servient_core.specs.Machine.{State, Move, acts_of_reply, RepliesToWait, AnswersWait, MarksObservers, Delivers, DeliversEach, AnswersLateWait, ClosesIdle}
+use Rattle.progress_laws.proofs.WaitingStreams.{IsAmong, oldest_is, Owes, IsSound, cut_sound, is_waiting_of}
 use Rattle.progress_laws.proofs.WaitFates.{acts_seen}
 
 -- ---- moves

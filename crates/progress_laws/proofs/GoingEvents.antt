@@ -1,19 +1,15 @@
 -- An event can be ended: notifications are sent, late waits are told, and idle connections are closed.
-use Rattle.std.proofs.Common.{◌≡◌, ◌<◌, ◌≤◌, ◌+◌, ◌⊎◌, ℕ, List, [], ◌∷◌, Option, Some, None, refl, sym, ap, subst, ◌∙◌, arith, inl, inr, max, true, false, Bool}
-use Rattle.std.specs.Prelude.{if◌then◌else◌}
+use Rattle.std.proofs.Common.{◌≡◌, ◌<◌, ◌+◌, ◌⊎◌, ℕ, List, [], ◌∷◌, Some, None, refl, sym, subst, arith, inl, inr, max, true, false, Bool}
 use Rattle.servient_base.specs.Moves.{Then, Until}
 use Rattle.coap_observe.specs.declared.notice.Notice.{Notice}
-use Rattle.coap_observe.specs.declared.observer.Observer.{Observer}
-use Rattle.coap_observe.specs.Watching.{Watching, Notifies}
+use Rattle.coap_observe.specs.Watching.{Watching}
 use Rattle.coap_bind.specs.declared.server.Server.{Server}
 use Rattle.coap_bind.specs.Server.{with_observers, with_notification_sent, SendsNext}
 use Rattle.http_bind.specs.Streams.{oldest_late, NoneIdle}
-use Rattle.servient_outside.specs.declared.net.EventWithBytes.{EventWithBytes}
 use Rattle.servient_outside.specs.declared.net.Act.TheVariants as act
 use Rattle.servient_trace.specs.Trace.{Sighting}
-use Rattle.servient_core.specs.Machine.{Site, State, start, OnCoap, SendsNotification, NothingIsDue, SendsNotifications, AnswersLateWait, ClosesIdle, EndsEvent, Follows, Run, notification_bytes}
-use Rattle.progress_laws.specs.Progress.{CanBeMade, EventsCanEnd, EmissionsCanBeDelivered}
-use Rattle.progress_laws.proofs.WaitingStreams.{IsSound}
+use Rattle.servient_core.specs.Machine.{State, OnCoap, SendsNotification, NothingIsDue, SendsNotifications, AnswersLateWait, ClosesIdle, EndsEvent, notification_bytes}
+use Rattle.progress_laws.specs.Progress.{EventsCanEnd, EmissionsCanBeDelivered}
 use Rattle.progress_laws.proofs.WaitMoves.{base_first, base_follows, reached_sound}
 use Rattle.progress_laws.proofs.WaitFates.{acts_seen}
 use Rattle.progress_laws.proofs.Going.{Gets, gets_then, gets_until, Falls, IsWell, delivers_all, tells_all_late, closes_all}

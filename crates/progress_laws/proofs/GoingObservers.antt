@@ -1,6 +1,6 @@
 -- The notification to be sent can be said of any observers, and after finitely many none is due: of each observer counts
 -- whether it has a new value, and how often its last message may be sent again.
-use Rattle.std.proofs.Common.{◌≡◌, ◌<◌, ◌≤◌, ◌+◌, ◌-◌, ◌⊎◌, ◌&&◌, ℕ, zero, suc, Bool, true, false, cond, not, List, [], ◌∷◌, length, take, filter, find, Option, Some, None, option_and_then, option_map, nat_le, if◌then◌else◌, refl, sym, ap, subst, ◌∙◌, arith, inl, inr}
+use Rattle.std.proofs.Common.{◌≡◌, ◌<◌, ◌≤◌, ◌+◌, ◌-◌, ◌&&◌, ℕ, zero, suc, Bool, true, false, cond, not, List, [], ◌∷◌, length, filter, find, Option, Some, None, option_map, if◌then◌else◌, refl, sym, ap, subst, arith}
 use Rattle.std.proofs.lemmas.Bool.Decides.{nat_tests}
 use Rattle.std.proofs.lemmas.List.{take_all}
 use Rattle.std.proofs.lemmas.Option.{same_Some}
@@ -8,7 +8,7 @@ use Rattle.coap_msg.specs.declared.endpoint.Endpoint.{Endpoint}
 use Rattle.coap_observe.specs.declared.observer.Observer.{Observer}
 use Rattle.coap_observe.specs.declared.notice.Notice.{Notice}
 use Rattle.coap_observe.specs.Sending.{Sent, sent_again, is_exhausted}
-use Rattle.coap_observe.specs.Watching.{Watching, is_from, is_due, is_late, is_given_up, is_spent, is_sendable, resent, renewed, notified, with_first, without, IsNotification, hopeless, given_up_endpoint, next_sequence, GivesUp, nobody, endpoint, Sends, same, newer, first, nothing, Notifies}
+use Rattle.coap_observe.specs.Watching.{is_from, is_due, is_spent, is_sendable, resent, renewed, notified, with_first, without, IsNotification, hopeless, next_sequence, GivesUp, nobody, endpoint, Sends, same, newer, first, nothing, Notifies}
 use Rattle.coap_observe.proofs.Due.{hopeless_by, not_given_up, due_was_sent}
 use Rattle.coap_observe.proofs.Counts.{found_passes}
 

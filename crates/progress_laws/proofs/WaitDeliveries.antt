@@ -1,27 +1,26 @@
 -- What comes of a wait while emissions are delivered, and while what has come is taken.
-use Rattle.std.proofs.Common.{◌≡◌, ◌⊎◌, ◌++◌, ◌==◌, ℕ, Bool, true, false, List, [], ◌∷◌, map, Option, Some, None, option_map, refl, sym, ap, ap₂, subst, ◌∙◌, append_assoc, inl, inr}
+use Rattle.std.proofs.Common.{◌≡◌, ◌++◌, ◌==◌, ℕ, true, false, List, [], ◌∷◌, Option, Some, None, refl, sym, ap, subst, ◌∙◌, append_assoc, inl, inr}
 use Rattle.std.proofs.lemmas.List.{append-nil}
-use Rattle.servient_base.specs.Moves.{Becomes, Then, Until, Each, is_done, goes_on}
+use Rattle.servient_base.specs.Moves.{Becomes, Until, Each, is_done, goes_on}
 use Rattle.coap_msg.specs.declared.endpoint.Endpoint.{Endpoint}
 use Rattle.coap_bind.specs.declared.pending.PendingReply.{PendingReply}
 use Rattle.coap_bind.specs.Server.{Heard, ignored, answered_at_once, asked as is_asked, Hears, Answers, with_emitted}
 use Rattle.coap_opts.specs.Reading.{AskSeen}
 use Rattle.thing_ops.specs.declared.outcome.Outcome.{Outcome}
 use Rattle.thing_ops.specs.Requests.{RequestSeen}
-use Rattle.thing_site.specs.Site.{Placed, events_of}
+use Rattle.thing_site.specs.Site.{Placed}
 use Rattle.thing_state.specs.State.{State as ThingState, Emission, last_of}
 use Rattle.thing_core.specs.Thing.{Done, Acts, PollsEvent}
 use Rattle.http_bind.specs.declared.owed.Owed.{Owed}
 use Rattle.http_bind.specs.declared.waits.Wait.{Wait}
-use Rattle.http_bind.specs.Streams.{HttpReply, Connection, Streams, Taken, asks, wants_continue, is_faulty, interrupts, connection_at, with_connection, without_wait, other_waits, is_waiting, Answers as AnswersRequest, lets_wait, sends_reply, after_reply, Takes, Lengthened, lengthened, oldest_for}
-use Rattle.servient_outside.specs.declared.net.Act.{Act}
+use Rattle.http_bind.specs.Streams.{HttpReply, Streams, Taken, asks, wants_continue, is_faulty, interrupts, connection_at, other_waits, is_waiting, Answers as AnswersRequest, lets_wait, sends_reply, after_reply, Takes, oldest_for}
 use Rattle.servient_outside.specs.declared.net.Act.TheVariants as act
 use Rattle.servient_trace.specs.Trace.{Sighting}
-use Rattle.servient_core.specs.Machine.{Site, State, OnHttp, AnswersWait, MarksObservers, Delivers, DeliversEach, Performs, PerformsByHttp, AnswersAsk, AnswersDatagram, HearsDatagram, SendsIfAny, AnswersMessage, AnswersTaken, TakesNextMessage, TakesEveryMessage, PollsAndDelivers, acts_of_reply, observed_target}
-use Rattle.progress_laws.specs.Waits.{Delivery, delivery_of, deliveries_of, first_of, acts_on, deliveries_of_taken, deliveries_of_messages, deliveries_of_answer, deliveries_of_datagram, deliveries_of_polls}
-use Rattle.progress_laws.proofs.WaitingStreams.{turned, isnt_both, IsAmong, among_others, among_more, others_among, more_among, none_oldest, still_none, none_with, there_is}
-use Rattle.progress_laws.proofs.WaitMoves.{Base, base_coap, base_delivers, base_performs, base_message, base_next, base_thing, base_poll, base_ask, base_http, takes_changes}
-use Rattle.progress_laws.proofs.WaitFates.{first_more, none_last, Leaves, leaves_then, leaves_same, leaves_coap, leaves_thing, leaves_does, leaves_cut, reply_there, close_there, acts_seen, Fares, stays, is_told, fares_after, fares_here, Amid, amid_step}
+use Rattle.servient_core.specs.Machine.{Site, State, AnswersWait, Delivers, DeliversEach, PerformsByHttp, AnswersAsk, AnswersDatagram, HearsDatagram, SendsIfAny, AnswersMessage, AnswersTaken, TakesNextMessage, TakesEveryMessage, PollsAndDelivers, acts_of_reply, observed_target}
+use Rattle.progress_laws.specs.Waits.{Delivery, delivery_of, deliveries_of, acts_on, deliveries_of_taken, deliveries_of_messages, deliveries_of_answer, deliveries_of_datagram, deliveries_of_polls}
+use Rattle.progress_laws.proofs.WaitingStreams.{turned, IsAmong, others_among, more_among, none_oldest, still_none, none_with}
+use Rattle.progress_laws.proofs.WaitMoves.{Base, base_coap, base_performs, base_message, base_next, base_thing, base_ask, base_http, takes_changes}
+use Rattle.progress_laws.proofs.WaitFates.{first_more, none_last, Leaves, leaves_then, leaves_same, leaves_coap, leaves_thing, leaves_does, leaves_cut, reply_there, close_there, Fares, stays, is_told, fares_after, fares_here, Amid, amid_step}
 
 -- ---- one target is delivered
 

@@ -1,21 +1,21 @@
 -- What comes of a wait at the end of an event, and where bytes come on its own connection.
-use Rattle.std.proofs.Common.{◌≡◌, ◌≢◌, ◌⊎◌, ◌++◌, ◌==◌, ℕ, Bool, true, false, List, [], ◌∷◌, Option, Some, None, option_map, drop, refl, sym, ap, ap₂, subst, ◌∙◌, append_assoc, arith, inl, inr}
+use Rattle.std.proofs.Common.{◌≡◌, ◌≢◌, ◌++◌, ◌==◌, ℕ, Bool, true, false, List, [], ◌∷◌, Option, Some, None, refl, sym, ap, ap₂, subst, ◌∙◌, append_assoc, arith}
 use Rattle.std.proofs.lemmas.List.{append-nil}
 use Rattle.std.proofs.lemmas.List.Quantifiers.{position-Some}
 use Rattle.std.proofs.lemmas.Option.{same_Some}
-use Rattle.servient_base.specs.Moves.{Becomes, Then, Until, is_done, goes_on}
+use Rattle.servient_base.specs.Moves.{Then, Until, is_done, goes_on}
 use Rattle.coap_bind.specs.Server.{SendsNext}
 use Rattle.http_bind.specs.declared.owed.Owed.{Owed}
 use Rattle.http_bind.specs.declared.waits.Wait.{Wait}
-use Rattle.http_bind.specs.Streams.{Connection, Streams, Taken, interrupts, connection_at, with_connection, without_wait, is_waiting, is_late, is_idle, rest_of, LetsTake, takes_front, is_interrupted, Takes, IsDry, oldest_late, IsIdle, NoneIdle, Closes}
+use Rattle.http_bind.specs.Streams.{Connection, Streams, Taken, connection_at, with_connection, without_wait, is_waiting, is_late, is_idle, rest_of, LetsTake, takes_front, is_interrupted, oldest_late, IsIdle, NoneIdle}
 use Rattle.http_bind.proofs.WaitLists.{none_is_left}
 use Rattle.servient_outside.specs.declared.net.Act.{Act}
 use Rattle.servient_outside.specs.declared.net.Act.TheVariants as act
 use Rattle.servient_trace.specs.Trace.{Sighting}
-use Rattle.servient_core.specs.Machine.{Site, State, Move, OnCoap, Does, AnswersTaken, TakesNextMessage, TakesEveryMessage, SendsNotification, NothingIsDue, SendsNotifications, AnswersLateWait, ClosesIdle, EndsEvent, notification_bytes}
-use Rattle.progress_laws.specs.Waits.{Delivery, acts_on, deliveries_of_messages}
-use Rattle.progress_laws.proofs.WaitingStreams.{same_of, turned, isnt_both, false_unless, IsAmong, Oldest, oldest_is, none_oldest, Owes, none_here, is_waiting_of, among_others}
-use Rattle.progress_laws.proofs.WaitMoves.{Base, KeepsBase, base_notifications, base_late, base_lates, base_idle, base_all_idle, base_ends}
+use Rattle.servient_core.specs.Machine.{Site, State, Move, Does, AnswersTaken, TakesEveryMessage, SendsNotification, NothingIsDue, SendsNotifications, AnswersLateWait, ClosesIdle, EndsEvent, notification_bytes}
+use Rattle.progress_laws.specs.Waits.{acts_on, deliveries_of_messages}
+use Rattle.progress_laws.proofs.WaitingStreams.{same_of, turned, isnt_both, false_unless, IsAmong, Oldest, oldest_is, none_oldest, none_here, among_others}
+use Rattle.progress_laws.proofs.WaitMoves.{Base, base_notifications, base_late, base_lates, base_idle}
 use Rattle.progress_laws.proofs.WaitFates.{acts_then, acts_seen, close_here, close_there, owing_is_awake, Leaves, leaves_then, leaves_same, leaves_coap, leaves_does, leaves_cut, Still, Cut, IsTold, still_after, cut_after, told_after, Told, told_of, told_leaves, told_here}
 
 -- ---- moves that leave any connection alone

@@ -1,28 +1,27 @@
 -- What one wait comes to: it stays, or its connection is replied to, once.
-use Rattle.std.proofs.Common.{◌≡◌, ◌⊎◌, ◌++◌, ◌==◌, ◌-◌, ◌&&◌, ℕ, Bool, true, false, cond, List, [], ◌∷◌, map, find, nat_le, is_none, Option, Some, None, option_map, refl, sym, ap, ap₂, subst, ◌∙◌, append_assoc, arith, inl, inr, if◌then◌else◌}
+use Rattle.std.proofs.Common.{◌≡◌, ◌++◌, ◌==◌, ◌-◌, ◌&&◌, ℕ, Bool, true, false, cond, List, [], ◌∷◌, map, nat_le, is_none, Option, Some, None, refl, sym, ap, ap₂, subst, ◌∙◌, arith, if◌then◌else◌}
 use Rattle.std.proofs.lemmas.List.{append-nil}
 use Rattle.std.proofs.lemmas.List.Folds.{find-append}
 use Rattle.std.proofs.lemmas.Option.{same_Some}
 use Rattle.std.specs.Option.{option_or}
-use Rattle.servient_base.specs.Moves.{Becomes, Then, Until, Each, is_done, goes_on}
+use Rattle.servient_base.specs.Moves.{Becomes}
 use Rattle.coap_bind.specs.declared.server.Server.{Server}
-use Rattle.coap_bind.specs.Server.{with_emitted}
 use Rattle.thing_handler.specs.Turns.{HandlerCall}
-use Rattle.thing_state.specs.State.{State as ThingState, Emission, last_of}
+use Rattle.thing_state.specs.State.{State as ThingState, last_of}
 use Rattle.thing_state.specs.Calls.{Move as ThingMove}
 use Rattle.http_bind.specs.declared.owed.Owed.{Owed}
 use Rattle.http_bind.specs.declared.waits.Wait.{Wait}
 use Rattle.http_bind.specs.Replying.{reply}
-use Rattle.http_bind.specs.Streams.{HttpReply, Connection, Streams, connection_at, with_connection, without_wait, other_waits, is_waiting, is_idle, Wakes, woken_by, after_reply, oldest_for}
+use Rattle.http_bind.specs.Streams.{HttpReply, Connection, Streams, connection_at, with_connection, without_wait, is_waiting, is_idle, Wakes, woken_by, after_reply}
 use Rattle.http_bind.proofs.WaitLists.{none_is_left}
 use Rattle.servient_outside.specs.declared.net.Act.{Act}
 use Rattle.servient_outside.specs.declared.net.Act.TheVariants as act
 use Rattle.servient_outside.specs.Network.{heard, did, broke}
 use Rattle.servient_trace.specs.Trace.{Sighting, at_network, at_handler}
-use Rattle.servient_core.specs.Machine.{State, OnHttp, OnCoap, OnThing, Does, acts_of_reply, Sends, RepliesToWait, AnswersWait, MarksObservers, Delivers, DeliversEach}
-use Rattle.progress_laws.specs.Waits.{Delivery, delivery_of, deliveries_of, is_delivery_of, first_of, is_act_on, acts_on}
-use Rattle.progress_laws.proofs.WaitingStreams.{apart_of, same_of, turned, isnt_both, false_unless, IsAmong, among_others, others_among, last_among, more_among, is_waiting_of, still_none, Oldest, oldest_is, none_oldest, Owes, IsSound, here_is, none_here, there_is, owes_there}
-use Rattle.progress_laws.proofs.WaitMoves.{Base, KeepsBase, base_until, base_wait, base_coap, base_delivers}
+use Rattle.servient_core.specs.Machine.{State, OnCoap, OnThing, Does, acts_of_reply, RepliesToWait, AnswersWait}
+use Rattle.progress_laws.specs.Waits.{Delivery, is_delivery_of, first_of, is_act_on, acts_on}
+use Rattle.progress_laws.proofs.WaitingStreams.{apart_of, same_of, turned, isnt_both, IsAmong, others_among, still_none, Oldest, oldest_is, Owes, here_is, there_is}
+use Rattle.progress_laws.proofs.WaitMoves.{Base, base_wait}
 
 -- ---- what is done to a connection
 

@@ -1,13 +1,13 @@
 -- A wait ends.
-use Rattle.std.proofs.Common.{◌≡◌, ◌≢◌, ◌<◌, ◌≤◌, ◌+◌, ◌-◌, ◌⊎◌, ◌++◌, ◌==◌, ℕ, max, Bool, true, false, List, [], ◌∷◌, Option, Some, None, option_map, drop, nat_le, Contains, refl, sym, ap, ap₂, subst, ◌∙◌, append_assoc, arith, inl, inr}
+use Rattle.std.proofs.Common.{◌≡◌, ◌≢◌, ◌<◌, ◌≤◌, ◌+◌, ◌-◌, ◌⊎◌, ◌++◌, ◌==◌, ℕ, max, Bool, true, false, List, [], ◌∷◌, Option, Some, None, option_map, nat_le, Contains, refl, sym, ap, subst, ◌∙◌, append_assoc, arith, inl, inr}
 use Rattle.std.proofs.lemmas.Bool.Decides.{nat_tests}
 use Rattle.std.proofs.lemmas.List.{append-nil}
 use Rattle.std.proofs.lemmas.Option.{same_Some}
-use Rattle.servient_base.specs.Moves.{Becomes, Then, Each}
+use Rattle.servient_base.specs.Moves.{Becomes}
 use Rattle.thing_site.specs.Site.{events_of}
 use Rattle.http_bind.specs.declared.owed.Owed.{Owed}
 use Rattle.http_bind.specs.declared.waits.Wait.{Wait}
-use Rattle.http_bind.specs.Streams.{Connection, Streams, none_open, connection_at, with_connection, without_wait, is_waiting, is_late, is_idle, opened_at, Lengthened, lengthened, rest_of}
+use Rattle.http_bind.specs.Streams.{Connection, Streams, connection_at, with_connection, without_wait, is_waiting, is_late, is_idle, opened_at, Lengthened, lengthened, rest_of}
 use Rattle.http_bind.proofs.WaitLists.{none_is_left}
 use Rattle.servient_outside.specs.declared.net.What.{What}
 use Rattle.servient_outside.specs.declared.net.What.TheVariants as what
@@ -16,11 +16,11 @@ use Rattle.servient_outside.specs.declared.net.Act.{Act}
 use Rattle.servient_outside.specs.declared.net.Act.TheVariants as act
 use Rattle.servient_outside.specs.Network.{heard}
 use Rattle.servient_trace.specs.Trace.{Sighting, at_network}
-use Rattle.servient_core.specs.Machine.{Site, State, start, OnHttp, HearsPiece, EndsEvent, Follows, Step, EventAndStep, Run}
-use Rattle.progress_laws.specs.Waits.{Delivery, first_of, acts_on, deliveries_of_messages, deliveries_of_event, deliveries_at, IsToldOf, IsInterrupted, IsOver, Fate, is_opened, has_ended, is_cut_off, is_told, is_too_late, waits_on, EndWaits, WaitsEnd}
+use Rattle.servient_core.specs.Machine.{Site, State, start, HearsPiece, Follows, Step, EventAndStep, Run}
+use Rattle.progress_laws.specs.Waits.{Delivery, first_of, acts_on, deliveries_of_messages, deliveries_of_event, deliveries_at, IsToldOf, IsInterrupted, Fate, is_opened, has_ended, is_cut_off, is_told, is_too_late, waits_on, WaitsEnd}
 use Rattle.progress_laws.proofs.WaitingStreams.{same_of, IsAmong, among_of, contains_of, Owes, IsSound, here_is, there_is, lengthened_here}
 use Rattle.progress_laws.proofs.WaitMoves.{Base, base_http, base_first, base_follows, base_notifications, base_ends, lengthened_changes, moved, event_base, reached_sound, none_sound}
-use Rattle.progress_laws.proofs.WaitFates.{acts_then, opened_is_awake, Leaves, leaves_cut, Still, Cut, IsTold, still_after, Fares, stays, is_told as was_told, fares_after}
+use Rattle.progress_laws.proofs.WaitFates.{opened_is_awake, Leaves, leaves_cut, Still, Cut, IsTold, still_after, Fares, stays, is_told as was_told}
 use Rattle.progress_laws.proofs.WaitDeliveries.{Far, messages_far, datagram_far, polls_far}
 use Rattle.progress_laws.proofs.WaitEnds.{cut_ends, Ends, on_time, too_late, still_ends, none_late, Own, nothing_taken, interrupted, own_messages}
 

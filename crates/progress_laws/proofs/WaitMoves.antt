@@ -1,6 +1,6 @@
 -- Each move of the machine keeps the connections sound, and what waits after it waited before, or came at its moment.
-use Rattle.std.proofs.Common.{◌≡◌, ◌⊎◌, ◌++◌, ℕ, max, Bool, true, false, List, [], ◌∷◌, map, Option, Some, None, option_map, refl, sym, ap, subst, ◌∙◌, inl, inr}
-use Rattle.servient_base.specs.Moves.{Becomes, Then, Passing, Each, Until, is_done, goes_on}
+use Rattle.std.proofs.Common.{◌≡◌, ◌⊎◌, ℕ, max, Bool, true, false, List, [], ◌∷◌, map, Option, Some, None, refl, sym, ap, subst, ◌∙◌, inl, inr}
+use Rattle.servient_base.specs.Moves.{Becomes, Then, Each, Until, is_done, goes_on}
 use Rattle.coap_msg.specs.declared.endpoint.Endpoint.{Endpoint}
 use Rattle.coap_bind.specs.declared.server.Server.{Server}
 use Rattle.coap_bind.specs.declared.pending.PendingReply.{PendingReply}
@@ -12,18 +12,17 @@ use Rattle.thing_site.specs.Site.{Placed, events_of}
 use Rattle.thing_state.specs.State.{Emission, last_of}
 use Rattle.thing_state.specs.Calls.{Move as ThingMove}
 use Rattle.thing_core.specs.Thing.{Done, Acts, PollsEvent}
-use Rattle.http_bind.specs.declared.owed.Owed.{Owed}
 use Rattle.http_bind.specs.declared.waits.Wait.{Wait}
-use Rattle.http_bind.specs.Streams.{HttpReply, Connection, Streams, none_open, Taken, asks, wants_continue, is_faulty, interrupts, connection_at, with_connection, without_wait, other_waits, Opened, opened_at, Ended, Lengthened, lengthened, Takes, IsDry, Answers as AnswersRequest, lets_wait, sends_reply, Wakes, woken_by, after_reply, Continues, Refuses, Closes, oldest_for, oldest_late, IsIdle, NoneIdle}
+use Rattle.http_bind.specs.Streams.{HttpReply, Connection, Streams, none_open, Taken, asks, wants_continue, is_faulty, interrupts, with_connection, without_wait, other_waits, Opened, opened_at, Ended, Lengthened, Takes, IsDry, Answers as AnswersRequest, lets_wait, sends_reply, Wakes, after_reply, Continues, Refuses, Closes, oldest_for, oldest_late, IsIdle, NoneIdle}
 use Rattle.servient_outside.specs.declared.net.What.{What}
 use Rattle.servient_outside.specs.declared.net.What.TheVariants as what
 use Rattle.servient_outside.specs.declared.net.EventWithBytes.{EventWithBytes}
 use Rattle.servient_outside.specs.declared.net.Act.{Act}
 use Rattle.servient_outside.specs.declared.net.Act.TheVariants as act
-use Rattle.servient_outside.specs.Network.{heard, did}
+use Rattle.servient_outside.specs.Network.{did}
 use Rattle.servient_trace.specs.Trace.{Sighting, at_network, at_handler}
-use Rattle.servient_core.specs.Machine.{Site, State, Move, start, OnHttp, OnCoap, OnThing, Does, acts_of_reply, Sends, SendsIfAny, RepliesToWait, AnswersWait, MarksObservers, Delivers, DeliversEach, Performs, PerformsByHttp, AnswersAsk, AnswersDatagram, HearsDatagram, AnswersMessage, AnswersTaken, TakesNextMessage, TakesEveryMessage, HearsPiece, SendsNotification, NothingIsDue, SendsNotifications, AnswersLateWait, ClosesIdle, EndsEvent, PollsAndDelivers, Follows, Step, EventAndStep, Run, observed_target, notification_bytes}
-use Rattle.progress_laws.proofs.WaitingStreams.{IsAmong, among_others, among_more, Owes, IsSound, cut_sound, lengthened_sound, begun_sound}
+use Rattle.servient_core.specs.Machine.{Site, State, Move, start, OnHttp, OnCoap, OnThing, Does, acts_of_reply, Sends, SendsIfAny, RepliesToWait, AnswersWait, MarksObservers, Delivers, DeliversEach, Performs, PerformsByHttp, AnswersAsk, AnswersDatagram, HearsDatagram, AnswersMessage, AnswersTaken, TakesNextMessage, TakesEveryMessage, SendsNotification, NothingIsDue, SendsNotifications, AnswersLateWait, ClosesIdle, EndsEvent, PollsAndDelivers, Follows, Step, EventAndStep, Run, observed_target, notification_bytes}
+use Rattle.progress_laws.proofs.WaitingStreams.{IsAmong, among_others, among_more, IsSound, cut_sound, lengthened_sound, begun_sound}
 
 -- at a moment, over those that waited at first
 pub record Base (at_first : List Wait) (now : ℕ) (u : State) : Type 0 where

@@ -1,13 +1,13 @@
 -- The connections and their waits: what a change of one connection leaves of another's.
-use Rattle.std.proofs.Common.{◌≡◌, ◌≢◌, ◌<◌, ◌≤◌, ◌+◌, ◌-◌, ◌==◌, ◌||◌, ◌⊎◌, ℕ, zero, suc, Bool, true, false, cond, not, List, [], ◌∷◌, ◌++◌, length, filter, find, slice_index_or, slice_set, get_or, Option, Some, None, option_map, nat_le, refl, sym, ap, subst, ◌∙◌, arith, inl, inr, All, Contains}
+use Rattle.std.proofs.Common.{◌≡◌, ◌≢◌, ◌<◌, ◌==◌, ◌||◌, ◌⊎◌, ℕ, zero, suc, Bool, true, false, cond, not, List, [], ◌∷◌, ◌++◌, length, find, slice_index_or, slice_set, Option, Some, None, option_map, refl, sym, ap, subst, ◌∙◌, arith, inl, inr, All, Contains}
 use Rattle.std.proofs.lemmas.Bool.Decides.{nat_tests}
 use Rattle.std.proofs.lemmas.List.{get_or-set_other, get_or-set_same}
 use Rattle.std.proofs.lemmas.List.Elements.{Contains-append_right, All-contains, All-cons, All-nil, All-weaker}
 use Rattle.std.proofs.lemmas.Option.{same_Some}
 use Rattle.http_bind.specs.declared.owed.Owed.{Owed}
 use Rattle.http_bind.specs.declared.waits.Wait.{Wait}
-use Rattle.http_bind.specs.Streams.{Connection, Streams, connection_at, with_connection, without_wait, other_waits, is_wait_of, is_waiting, oldest, lengthened, is_idle}
-use Rattle.http_bind.proofs.WaitLists.{none_is_left, others_wait, one_more_waits}
+use Rattle.http_bind.specs.Streams.{Connection, Streams, connection_at, with_connection, without_wait, other_waits, is_wait_of, is_waiting, oldest, lengthened}
+use Rattle.http_bind.proofs.WaitLists.{others_wait, one_more_waits}
 
 -- ---- numbers and tests
 

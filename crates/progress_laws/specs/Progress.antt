@@ -1,5 +1,5 @@
 -- The machine isn't stuck: layer by layer, a move can be made wherever the machine's page comes to it.
-use Rattle.std.specs.Prelude.{◌≡◌, ◌⊎◌, ℕ, max, List, Option}
+use Rattle.std.specs.Prelude.{◌⊎◌, ℕ, max, List, Option}
 use Rattle.httparse.specs.Grammar.{RequestHead}
 use Rattle.http_wire.specs.Heads.{IsHead}
 use Rattle.http_bind.specs.Streams.{Streams, Taken, Takes, IsDry}

@@ -1,0 +1,10 @@
+mod WaitingStreams
+mod WaitMoves
+mod WaitFates
+mod WaitDeliveries
+mod WaitEnds
+mod WaitLaws
+mod GoingStreams
+mod Going
+mod GoingObservers
+mod GoingEvents

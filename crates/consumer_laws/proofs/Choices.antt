@@ -1,4 +1,4 @@
--- What is chosen of a derived description over HTTP is the act of its operation.
+-- A choice over HTTP of a derived description is the act of its operation.
 use Rattle.std.proofs.Common.{◌≡◌, ◌≢◌, ◌⊎◌, ◌<◌, ℕ, zero, suc, Bool, true, false, List, [], ◌∷◌, ◌++◌, length, map, Option, Some, None, Ok, inl, inr, refl, sym, ap, subst, ◌∙◌, arith}
 use Rattle.std.specs.Prelude.{◌&&◌, codes, Contains, IfSome, slice_index_or, unwrap_or, option_map, option_and_then, if◌then◌else◌}
 use Rattle.std.specs.List.{AllByRecursion}
@@ -81,7 +81,7 @@ scheme_is name is = by (bytes_eq name (codes "http")) (bytes_eq name (codes "coa
     by false true differ found = absurd cc
     by false false differ found = absurd cc
 
--- What qualifies by such a form is at its path, where what the operation asks for is taken.
+-- Such a form that qualifies leads to its path, where the verb of the operation is taken.
 pub record IsAtPath (site : Site) (asked : Op → Option (Verb × ThingAct)) (o : Op) (c : Chosen) : Type 0 where
   pub taken : IfSome (asked o) (λ (asks : Verb × ThingAct). IsTaken site c.path asks.0 asks.1)
   pub verb : c.verb ≡ default_verb o

@@ -1,7 +1,7 @@
 pub mod HeadLines
 pub mod HeadBytes
-mod Targets
-mod RequestHeads
+pub mod Targets
+pub mod RequestHeads
 mod RequestsRead
 mod Pieces
 mod GeneratedForms

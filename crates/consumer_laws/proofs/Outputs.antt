@@ -1,4 +1,4 @@
--- What a Thing lets out is accepted by its description.
+-- A description accepts each value that its Thing lets out.
 use Rattle.std.proofs.Common.{◌≡◌, ℕ, true, List, Option, Some, None, Ok, refl, sym, subst}
 use Rattle.std.specs.Prelude.{codes, IfSome, option_and_then}
 use Rattle.std.specs.List.{AllByRecursion}

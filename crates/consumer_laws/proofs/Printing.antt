@@ -1,4 +1,4 @@
--- What an operation over HTTP prints is the payload of the reply that comes, or nothing. The types of a wait and of a
+-- An operation over HTTP prints the payload of the reply that comes, or nothing. The types of a wait and of a
 -- verdict aren't named: their crate doesn't export them.
 use Rattle.std.proofs.Common.{◌≡◌, ◌≢◌, ℕ, Bool, true, false, List, [], ◌∷◌, ◌++◌, append_assoc, append-nil, Option, Some, None, inl, inr, refl, sym, ap, ap₂, subst, ◌∙◌}
 use Rattle.std.specs.Prelude.{◌⊎◌, nat_le, unwrap_or, if◌then◌else◌}

@@ -1,8 +1,7 @@
 -- The target of a request has the path that was chosen, and no query.
-use Rattle.std.proofs.Common.{◌≡◌, ◌≢◌, ◌<◌, ◌≤◌, ◌+◌, ◌/◌, ◌%◌, ℕ, Bool, true, false, List, [], ◌∷◌, ◌++◌, length, map, drop, Some, refl, ap, ap₂, ◌∙◌, sym, arith, le-leb, inl, inr}
+use Rattle.std.proofs.Common.{◌≡◌, ◌≢◌, ◌<◌, ◌≤◌, ◌+◌, ℕ, Bool, true, false, List, [], ◌∷◌, ◌++◌, length, map, drop, Some, refl, ap, ap₂, ◌∙◌, sym, arith, le-leb, inl, inr}
 use Rattle.std.specs.Prelude.{nat_lt, if◌then◌else◌}
 use Rattle.std.specs.List.{AllByRecursion}
-use Rattle.std.specs.Fmt.{digit_glyph}
 use Rattle.std.proofs.lemmas.Bool.{cases_lt, lt-leb, ne_eqb}
 use Rattle.std.proofs.lemmas.Bool.Decides.{nat_tests}
 use Rattle.std.proofs.lemmas.List.{drop_all}
@@ -12,7 +11,7 @@ use Rattle.http_wire.specs.Targets.{segments_of}
 use Rattle.http_wire.specs.Reading.{query_of}
 use Rattle.wot_consumer.specs.Messages.{segments_text, path_text}
 use Rattle.description_laws.specs.Encoding.{AreBytes}
-use Rattle.description_laws.proofs.EncodedBytes.{encoded_is_inside, undone}
+use Rattle.description_laws.proofs.EncodedBytes.{byte_has, encoded_is_inside, undone}
 use Rattle.description_laws.proofs.Targets.{slashed, AreParts, HasNoMark, slashed_has_none, no_mark, target_read}
 use Rattle.consumer_laws.specs.Asking.{IsVisible}
 use Rattle.consumer_laws.proofs.HeadBytes.{both_all}
@@ -56,23 +55,10 @@ unreserved_is_visible b is = (low, high)
     high : b ≤ 126
     high = elim (cases_lt 126 b) [ inl more ↦ absurd (never (sym (beyond b more) ∙ is)) | inr most ↦ omega (arith, most) ]
 
-glyph_is_visible : (d : ℕ) → d < 16 → IsVisible (digit_glyph true d)
-glyph_is_visible d less = by (nat_lt d 10) refl
-  where
-    by : (b : Bool) → nat_lt d 10 ≡ b → IsVisible (digit_glyph true d)
-    by true small = let n : d < 10 = grind (arith, nat_tests) in rw small (omega arith, omega arith)
-    by false large = let n : 10 ≤ d = grind (arith, nat_tests) in rw large (omega (arith, less), omega (arith, less))
-
 byte_is_visible : (b : ℕ) → AllByRecursion IsVisible (encoded_byte b)
-unfolding percent_encode_byte
-byte_is_visible b = by (is_unreserved b) refl
-  where
-    escape : AllByRecursion IsVisible (percent_encode_byte b)
-    escape = ((omega arith, omega arith), (glyph_is_visible (b / 16 % 16) (omega arith), (glyph_is_visible (b % 16) (omega arith), tt)))
-
-    by : (t : Bool) → is_unreserved b ≡ t → AllByRecursion IsVisible (if t then b ∷ [] else percent_encode_byte b)
-    by true is = (unreserved_is_visible b is, tt)
-    by false is = escape
+byte_is_visible =
+    byte_has IsVisible unreserved_is_visible (omega arith, omega arith)
+    (λ b low high. (omega (arith, low), omega (arith, high))) (λ b low high. (omega (arith, low), omega (arith, high)))
 
 encoded_is_visible : (bytes : List ℕ) → AllByRecursion IsVisible (encoded bytes)
 encoded_is_visible [] = tt
@@ -130,7 +116,7 @@ path_is_read (segment ∷ path) are isnt =
 
 -- ---- no query
 
-no_query : (target : List ℕ) → HasNoMark target → query_of target ≡ []
+pub no_query : (target : List ℕ) → HasNoMark target → query_of target ≡ []
 no_query target none =
     ap (λ (n : ℕ). drop (if nat_lt n (length target) then n + 1 else length target) target) (no_mark target none) ∙ at_end
   where

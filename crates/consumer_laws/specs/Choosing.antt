@@ -1,4 +1,4 @@
--- What is chosen of a derived description for an operation, over HTTP, is the act of that operation (TD 1.1, sections
+-- A choice of a derived description for an operation, over HTTP, is the act of that operation (TD 1.1, sections
 -- 5.3.4.2 and 8.3).
 use Rattle.std.specs.Prelude.{◌≡◌, ◌≢◌, ℕ, List, [], ◌++◌, codes, true, Option, Some, None, option_and_then, unwrap_or, Ok}
 use Rattle.std.specs.List.{AllByRecursion}
@@ -36,7 +36,7 @@ abbrev pub asked_from : ExposedThing → Op → Option Kind → List ℕ → Opt
 asked_from thing o None name = asked_of_thing thing o
 asked_from thing o (Some k) name = option_and_then (asked_by_http o) (affordance_named k name thing.affordances)
 
--- What was chosen is asked for by the verb of this operation, and at its path that verb is taken and is its act.
+-- A choice is asked for by the verb of this operation, and at its path that verb is taken and is its act.
 pub record IsItsAct (site : Site) (thing : ExposedThing) (o : Op) (name : List ℕ) (c : Chosen) : Type 0 where
   pub act : ThingAct
   pub asks : asked_from thing o (kind_of o) name ≡ Some (c.verb, act)

@@ -5,8 +5,8 @@ ghost use Rattle.consumer_laws.specs.Consuming.{ConsumingDoesWhatIsDescribed, Re
 ghost use Rattle.consumer_laws.specs.Outputs.{OutputsAreTaken};
 ghost use Rattle.consumer_laws.specs.Replying.{RepliesAreReadBack};
 
-/// What is chosen of a derived description over HTTP is the act of its operation: at its path its verb is taken and is
-/// that act. And the bytes of `http_request` are read as the request for it with what is handed in, whole, with nothing
+/// A choice over HTTP of a derived description is the act of its operation: at its path its verb is taken and is that
+/// act. And the bytes of `http_request` are read as the request for it with what is handed in, whole, with nothing
 /// left over, in whatever pieces they come.
 ///
 /// It is asked that the head fits into 8,192 bytes and what is handed in into 16,384, that `url` reads each `href` as it is

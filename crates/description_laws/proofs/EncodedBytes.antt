@@ -1,5 +1,5 @@
 -- A byte that is encoded is read back, and no byte of the encoding ends a segment or a path.
-use Rattle.std.proofs.Common.{◌≡◌, ◌≢◌, ◌<◌, ◌≤◌, ◌/◌, ◌%◌, ℕ, Bool, true, false, List, [], ◌∷◌, ◌++◌, refl, ap, ◌∙◌, arith}
+use Rattle.std.proofs.Common.{◌≡◌, ◌≢◌, ◌<◌, ◌≤◌, ◌+◌, ◌/◌, ◌%◌, ℕ, Bool, true, false, List, [], ◌∷◌, ◌++◌, refl, ap, ◌∙◌, arith}
 use Rattle.std.specs.Prelude.{◌==◌, nat_lt, if◌then◌else◌}
 use Rattle.std.specs.List.{AllByRecursion}
 use Rattle.std.specs.Fmt.{digit_glyph}
@@ -52,23 +52,30 @@ pub both_inside : (xs ys : List ℕ) → AllByRecursion IsInside xs → AllByRec
 both_inside [] ys one other = other
 both_inside (x ∷ xs) ys one other = (one.0, both_inside xs ys one.1 other)
 
-glyph_is_inside : (d : ℕ) → d < 16 → IsInside (digit_glyph true d)
-glyph_is_inside d less = by (nat_lt d 10) refl
+-- An encoding has a property of all its bytes where those have it that stand for themselves, the mark of an escape, the
+-- digits and the letters from A to F.
+glyph_has : (P : ℕ → Type 0) → ((b : ℕ) → 48 ≤ b → b ≤ 57 → P b) → ((b : ℕ) → 65 ≤ b → b ≤ 70 → P b) → (d : ℕ) → d < 16 → P (digit_glyph true d)
+glyph_has P digit letter d less = by (nat_lt d 10) refl
   where
-    by : (b : Bool) → nat_lt d 10 ≡ b → IsInside (digit_glyph true d)
-    by true small = let n : d < 10 = grind (arith, nat_tests) in rw small (omega arith, omega arith)
-    by false large = let n : 10 ≤ d = grind (arith, nat_tests) in rw large (omega (arith, less), omega (arith, less))
+    by : (b : Bool) → nat_lt d 10 ≡ b → P (digit_glyph true d)
+    by true small = let n : d < 10 = grind (arith, nat_tests) in rw small (digit (48 + d) (omega arith) (omega (arith, n)))
+    by false large = let n : 10 ≤ d = grind (arith, nat_tests) in rw large (letter (55 + d) (omega (arith, n)) (omega (arith, less)))
+
+pub byte_has : (P : ℕ → Type 0) → ((b : ℕ) → is_unreserved b ≡ true → P b) → P 37 → ((b : ℕ) → 48 ≤ b → b ≤ 57 → P b) → ((b : ℕ) → 65 ≤ b → b ≤ 70 → P b) → (b : ℕ) → AllByRecursion P (encoded_byte b)
+unfolding percent_encode_byte
+byte_has P itself mark digit letter b = by (is_unreserved b) refl
+  where
+    escape : AllByRecursion P (percent_encode_byte b)
+    escape = (mark, (glyph_has P digit letter (b / 16 % 16) (omega arith), (glyph_has P digit letter (b % 16) (omega arith), tt)))
+
+    by : (t : Bool) → is_unreserved b ≡ t → AllByRecursion P (if t then b ∷ [] else percent_encode_byte b)
+    by true is = (itself b is, tt)
+    by false is = escape
 
 byte_is_inside : (b : ℕ) → AllByRecursion IsInside (encoded_byte b)
-unfolding percent_encode_byte
-byte_is_inside b = by (is_unreserved b) refl
-  where
-    escape : AllByRecursion IsInside (percent_encode_byte b)
-    escape = ((omega arith, omega arith), (glyph_is_inside (b / 16 % 16) (omega arith), (glyph_is_inside (b % 16) (omega arith), tt)))
-
-    by : (t : Bool) → is_unreserved b ≡ t → AllByRecursion IsInside (if t then b ∷ [] else percent_encode_byte b)
-    by true is = (((plain_byte b is).slash, (plain_byte b is).mark), tt)
-    by false is = escape
+byte_is_inside =
+    byte_has IsInside (λ b is. ((plain_byte b is).slash, (plain_byte b is).mark)) (omega arith, omega arith)
+    (λ b low high. (omega (arith, high), omega (arith, high))) (λ b low high. (omega (arith, low), omega (arith, low)))
 
 pub encoded_is_inside : (bytes : List ℕ) → AllByRecursion IsInside (encoded bytes)
 encoded_is_inside [] = tt

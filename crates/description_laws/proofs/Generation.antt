@@ -1,4 +1,4 @@
--- What a description has once its forms are generated.
+-- The members of a description once its forms are generated.
 use Rattle.std.proofs.Common.{◌≡◌, ℕ, List, false, Option, Some, None, refl, ap, ◌∙◌}
 use Rattle.std.specs.Prelude.{codes}
 use Rattle.std.specs.Str.{bytes_eq}

@@ -1,4 +1,4 @@
--- What is done at the paths of derived Things has its form.
+-- Each act at the paths of derived Things has its form.
 use Rattle.std.proofs.Common.{◌≡◌, ◌≢◌, ℕ, true, List, [], map, Some, Ok, refl, sym, subst}
 use Rattle.std.specs.Prelude.{codes}
 use Rattle.wot_json.specs.Tree.{Json, null, boolean, integer, string, array, object}

@@ -1,4 +1,4 @@
--- What is done at the paths of one Thing is told, path by path.
+-- Each act at the paths of one Thing is told, path by path.
 use Rattle.std.proofs.Common.{◌≡◌, ℕ, Bool, true, false, cond, List, [], ◌∷◌, Option, Some, None, inl, inr, refl, sym, ap, subst, ◌∙◌}
 use Rattle.std.specs.Prelude.{codes, ◌⊎◌, slice_get, IfSome, option_map, option_and_then, if◌then◌else◌}
 use Rattle.std.specs.Str.{bytes_eq}

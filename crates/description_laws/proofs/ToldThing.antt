@@ -1,4 +1,4 @@
--- What is done at the paths of one Thing, whose description is generated, has its form.
+-- Each act at the paths of one Thing, whose description is generated, has its form.
 use Rattle.std.proofs.Common.{◌≡◌, ℕ, Bool, true, false, cond, List, [], ◌∷◌, ◌++◌, Option, Some, None, refl, sym, ap, subst, ◌∙◌, append-nil}
 use Rattle.std.specs.Prelude.{codes, ◌&&◌, unwrap_or, option_map, if◌then◌else◌}
 use Rattle.std.specs.List.{AllByRecursion}

@@ -1,4 +1,4 @@
--- What a servient takes at the paths of its Things is in their descriptions, but for what is listed here.
+-- A servient takes at the paths of its Things only acts that are in their descriptions, but for those that are listed here.
 use Rattle.std.specs.Prelude.{◌≡◌, ◌≢◌, ◌⊎◌, ⊤, ℕ, List, [], ◌∷◌, slice_get, true, false, Option, Some, IfSome, codes, Ok}
 use Rattle.std.specs.List.{AllByRecursion}
 use Rattle.std.specs.Option.{option_map_or}

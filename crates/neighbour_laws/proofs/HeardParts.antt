@@ -23,7 +23,7 @@ use Rattle.coap_bind.specs.Server.{Heard, ignored, answered_at_once, asked, Hear
 
 -- ---- observers
 
--- What a datagram from an endpoint does to the observers before it is answered.
+-- The observers, before a datagram from an endpoint is answered.
 pub data Told (from : Endpoint) (old new : Watching) : Type 0 where
   leaves_all : new ≡ old → Told from old new
   acknowledges : (id : ℕ) → new ≡ with_acknowledgement from id old → Told from old new

@@ -5,6 +5,7 @@ pub mod HearingLaws
 pub mod ElsewhereLaws
 pub mod DueLaws
 pub mod StreamLaws
+pub mod StreamMoves
 pub mod AskerLaws
 pub mod NeighbourLaws
 pub mod ToldLaws

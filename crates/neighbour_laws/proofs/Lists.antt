@@ -1,4 +1,4 @@
--- What is found in lists, and what stays of a part of them.
+-- Elements that are found in lists, and parts of lists that stay.
 use Rattle.std.proofs.Common.{◌≡◌, ◌∙◌, ℕ, zero, suc, Bool, true, false, not, cond, List, [], ◌∷◌, map, filter, find, remove, Option, Some, None, refl, sym, ap, subst}
 use Rattle.std.specs.Prelude.{All, ◌||◌, slice_set}
 use Rattle.std.specs.List.{list_any}

@@ -27,7 +27,8 @@ use Rattle.neighbour_laws.proofs.HeardParts.{hears_told, asked_from, replied_obs
 use Rattle.neighbour_laws.proofs.HearingLaws.{hearing_all}
 use Rattle.neighbour_laws.proofs.ElsewhereLaws.{exchanges_left, few_bodies, bodies_left, parts_left}
 use Rattle.neighbour_laws.proofs.DueLaws.{told_leaves, watches_leaves, values_of_part, due_of_part}
-use Rattle.neighbour_laws.proofs.StreamLaws.{Passed, Moved, follows_moved, ends_moved, moved_to_end}
+use Rattle.neighbour_laws.proofs.StreamLaws.{Passed}
+use Rattle.neighbour_laws.proofs.StreamMoves.{Moved, follows_moved, ends_moved, moved_to_end}
 use Rattle.neighbour_laws.proofs.Lists.{not_false}
 
 -- ---- a datagram of another

@@ -1,4 +1,4 @@
--- What the observers were told, call by call.
+-- The deeds that told the observers, call by call.
 use Rattle.std.proofs.Common.{◌≡◌, ◌∙◌, ◌≤◌, ℕ, Bool, true, false, cond, List, [], ◌∷◌, ◌++◌, map, filter, find, length, refl, sym, ap, subst, arith, append_assoc}
 use Rattle.std.specs.Prelude.{Option, Some, None, ◌==◌, ◌&&◌, All, option_map, unwrap_or}
 use Rattle.std.specs.Str.{bytes_eq}

@@ -109,7 +109,7 @@ pub data KeepsBodies (x : Endpoint) (old new : List Body) : Type 0 where
   oldest_goes : (b oldest : Body) (rest : List Body) → position (is_body_of b.from b.path) old ≡ None → length old ≡ most_bodies → old ≡ oldest ∷ rest
       → bodies_of x new ≡ bodies_of x rest → KeepsBodies x old new
 
--- What is an endpoint's once the targets had new values, at a moment. Its exchanges that live, with their replies, and its
+-- The state of an endpoint once the targets had new values, at a moment. Its exchanges that live, with their replies, and its
 -- parts that live are as they were; its observers are those that it would have if it were alone.
 pub record LeavesEndpoint (x : Endpoint) (now : ℕ) (targets : List ℕ) (s t : Server) : Type 0 where
   pub exchanges : exchanges_of x (at_moment now t.exchanges).exchanges ≡ exchanges_of x (at_moment now s.exchanges).exchanges
@@ -119,7 +119,7 @@ pub record LeavesEndpoint (x : Endpoint) (now : ℕ) (targets : List ℕ) (s t :
 
 -- ---- the sentence
 
--- What is others' once this came, and these targets had new values.
+-- The state of all others once this came, and these targets had new values.
 pub record LeavesOthers (w : What) (targets : List ℕ) (s t : State) : Type 0 where
   pub connections : (c : ℕ) → is_other (connection_of w) c ≡ true → IsLeft c t.moment (is_answered t.moment targets) s.http t.http
   pub waits : AreInOrder (waits_besides (connection_of w) s.http.waits) (waits_besides (connection_of w) t.http.waits)

@@ -27,7 +27,7 @@ pub fn observers_converge()
     ensures { ObserversConverge }
 {}
 
-/// What a run is said to have told its observers are datagrams of its trace, and what it is said to have emitted gives the
+/// The deeds by which a run told its observers something are datagrams of its trace, and those by which it emitted give the
 /// last values of the Things.
 pub fn deeds_are_seen()
     ensures { DeedsAreSeen }

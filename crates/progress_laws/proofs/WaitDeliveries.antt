@@ -1,4 +1,4 @@
--- What comes of a wait while emissions are delivered, and while what has come is taken.
+-- The fate of a wait while emissions are delivered, and while messages are taken.
 use Rattle.std.proofs.Common.{◌≡◌, ◌++◌, ◌==◌, ℕ, true, false, List, [], ◌∷◌, Option, Some, None, refl, sym, ap, subst, ◌∙◌, append_assoc, inl, inr}
 use Rattle.std.proofs.lemmas.List.{append-nil}
 use Rattle.servient_base.specs.Moves.{Becomes, Until, Each, is_done, goes_on}

@@ -1,4 +1,4 @@
--- What comes of a wait at the end of an event, and where bytes come on its own connection.
+-- The fate of a wait at the end of an event, and where bytes come on its own connection.
 use Rattle.std.proofs.Common.{◌≡◌, ◌≢◌, ◌++◌, ◌==◌, ℕ, Bool, true, false, List, [], ◌∷◌, Option, Some, None, refl, sym, ap, ap₂, subst, ◌∙◌, append_assoc, arith}
 use Rattle.std.proofs.lemmas.List.{append-nil}
 use Rattle.std.proofs.lemmas.List.Quantifiers.{position-Some}
@@ -187,7 +187,7 @@ shut_stays : (site : Site) (c : ℕ) (u t : State) (a : List Sighting) → conne
 shut_stays site c u t a none (is_done s' a' t' done stays) = (stays.next, stays.saw)
 shut_stays site c u t a none (goes_on s' m t' a' first second one more whole) = absurd (let e : None ≡ Some one.1.one.1.0 = sym none ∙ one.1.one.1.2 in cc)
 
--- What comes of it: nothing is taken, since no byte is behind its request, or it is interrupted.
+-- Its fate: nothing is taken, since no byte is behind its request, or it is interrupted.
 pub data Own (site : Site) (w : Wait) (o : Owed) (now : ℕ) (seen : List Sighting) (s t : State) (a : List Sighting) (move : TakesEveryMessage site w.connection s a t) : Type 0 where
   nothing_taken : Still w o (seen ++ a) t → deliveries_of_messages site w.connection s t a move ≡ [] → Own site w o now seen s t a move
   interrupted : (x : Connection) → connection_at w.connection s.http ≡ Some x → rest_of x ≢ [] → Cut w now (act.Closed w.connection ∷ []) (seen ++ a) t → Own site w o now seen s t a move

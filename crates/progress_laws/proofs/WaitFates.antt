@@ -1,4 +1,4 @@
--- What one wait comes to: it stays, or its connection is replied to, once.
+-- The fate of one wait: it stays, or its connection is replied to, once.
 use Rattle.std.proofs.Common.{◌≡◌, ◌++◌, ◌==◌, ◌-◌, ◌&&◌, ℕ, Bool, true, false, cond, List, [], ◌∷◌, map, nat_le, is_none, Option, Some, None, refl, sym, ap, ap₂, subst, ◌∙◌, arith, if◌then◌else◌}
 use Rattle.std.proofs.lemmas.List.{append-nil}
 use Rattle.std.proofs.lemmas.List.Folds.{find-append}

@@ -26,7 +26,7 @@ use Rattle.progress_laws.proofs.WaitEnds.{cut_ends, Ends, on_time, too_late, sti
 
 -- ---- what follows from an event
 
--- What comes of a wait by what follows from an event, before its end.
+-- The fate of a wait by the moves that follow from an event, before its end.
 data Followed (w : Wait) (it : EventWithBytes) (o : Owed) (now : ℕ) (ds : List Delivery) (s : State) (seen : List Sighting) (t : State) : Type 0 where
   by_opening : it.event.what ≡ what.Opened w.connection → Cut w now [] seen t → Followed w it o now ds s seen t
   by_ending : it.event.what ≡ what.Ended w.connection → Cut w now [] seen t → Followed w it o now ds s seen t

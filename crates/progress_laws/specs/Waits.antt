@@ -1,4 +1,4 @@
--- What becomes of the requests that wait by HTTP (TD 1.1's long polls), over a whole run: each is replied to at the first
+-- The fates of the requests that wait by HTTP (TD 1.1's long polls), over a whole run: each is replied to at the first
 -- delivery of its target, or told that nothing came once it is late, or its connection is cut off.
 use mathlib.Core.Logic.{inl, inr}
 use Rattle.std.specs.Prelude.{◌≡◌, ◌≢◌, ◌<◌, ◌≤◌, ◌-◌, ◌+◌, ◌==◌, ℕ, max, Bool, true, false, List, [], ◌∷◌, ◌++◌, map, find, drop, Contains, Option, Some, None, if◌then◌else◌}
@@ -125,7 +125,7 @@ pub record IsInterrupted (w : Wait) (it : EventWithBytes) (s : State) : Type 0 w
 abbrev pub IsOver : Wait → State → Type 0
 IsOver w t = is_waiting w.connection t.http.waits ≡ false
 
--- What becomes of a wait at an event, at which there are these deliveries.
+-- The fate of a wait at an event, at which there are these deliveries.
 pub data Fate (w : Wait) (it : EventWithBytes) (deliveries : List Delivery) (s : State) (seen : List Sighting) (t : State) : Type 0 where
   -- its connection is opened anew, or was ended
   is_opened : it.event.what ≡ what.Opened w.connection → acts_on w.connection seen ≡ [] → IsOver w t → Fate w it deliveries s seen t

@@ -1,5 +1,5 @@
 -- The moves that two runs make alike: deliveries, replies, notifications, and what ends each event.
-use Rattle.std.proofs.Common.{◌≡◌, ℕ, Bool, List, [], ◌∷◌, map, Option, Some, None, refl, sym, ap, ap₂, subst, ◌∙◌, inl}
+use Rattle.std.proofs.Common.{◌≡◌, ℕ, List, [], ◌∷◌, map, Option, Some, None, refl, sym, ap, ap₂, subst, ◌∙◌, inl}
 use Rattle.std.specs.Prelude.{unwrap_or}
 use Rattle.std.proofs.lemmas.Option.{same_Some}
 use Rattle.servient_base.specs.Moves.{Then, Until}
@@ -13,7 +13,7 @@ use Rattle.servient_outside.specs.declared.net.Act.{Act}
 use Rattle.servient_outside.specs.declared.net.Act.TheVariants as act
 use Rattle.servient_outside.specs.Network.{did}
 use Rattle.servient_trace.specs.Trace.{Sighting, at_network}
-use Rattle.servient_core.specs.Machine.{State, OnHttp, OnCoap, Does, acts_of_reply, Sends, SendsIfAny, RepliesToWait, AnswersWait, MarksObservers, Delivers, DeliversEach, ClosesIdle, notification_bytes, SendsNotification, NothingIsDue, SendsNotifications, AnswersLateWait, EndsEvent}
+use Rattle.servient_core.specs.Machine.{State, OnCoap, Does, acts_of_reply, Sends, SendsIfAny, RepliesToWait, AnswersWait, MarksObservers, Delivers, DeliversEach, ClosesIdle, notification_bytes, SendsNotification, NothingIsDue, SendsNotifications, AnswersLateWait, EndsEvent}
 use Rattle.servient_core.specs.Keeping.{AnswersWaits, ClosesAllIdle, AnswersLateWaits}
 use Rattle.servient_laws.specs.Determined.{SameServer, Alike, Agree}
 use Rattle.servient_laws.proofs.AlikeStates.{AgreeAs, coap_changed, becomes_alike, becomes_agree, joined_alike, then_agree, each_agree, until_agree, passing_http, coap_agree}

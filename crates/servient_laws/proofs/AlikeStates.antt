@@ -1,6 +1,6 @@
 -- Two states that differ in the slots of kept replies alone, and moves that two runs make alike from such states, up to
 -- a sign that memory was wanting.
-use Rattle.std.proofs.Common.{◌≡◌, ℕ, List, [], ◌∷◌, ◌++◌, map, refl, sym, ap, ap₂, subst, ◌∙◌, inl, inr}
+use Rattle.std.proofs.Common.{◌≡◌, ℕ, List, [], ◌∷◌, ◌++◌, refl, sym, ap, ap₂, subst, ◌∙◌, inl, inr}
 use Rattle.std.specs.Prelude.{◌⊎◌}
 use Rattle.std.proofs.lemmas.List.Elements.{filter_map-append}
 use Rattle.servient_base.specs.Moves.{Becomes, Then, Passing, Each, Until, is_done, goes_on}

@@ -8,8 +8,8 @@ use Rattle.coap_exchange.specs.declared.met.Met.TheVariants.{Fresh}
 use Rattle.coap_bind.specs.declared.server.Server.{Server}
 use Rattle.coap_bind.specs.Server.{IsMet}
 use Rattle.servient_outside.specs.declared.net.EventWithBytes.{EventWithBytes}
-use Rattle.servient_outside.specs.Network.{heard, events_in}
-use Rattle.servient_trace.specs.Trace.{Sighting, at_network, happened_in}
+use Rattle.servient_outside.specs.Network.{events_in}
+use Rattle.servient_trace.specs.Trace.{Sighting, happened_in}
 use Rattle.servient_trace.proofs.TraceLaws.{events-append}
 use Rattle.servient_core.specs.Machine.{Site, State, start, Step, EventAndStep}
 use Rattle.servient_core.specs.Runs.{AreRequestsOf, AreRequestsFrom}

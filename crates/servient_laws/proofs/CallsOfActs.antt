@@ -1,26 +1,22 @@
 -- The calls of a request to the Things are the first of those that its act asks for, and those of a poll are one.
-use Rattle.std.proofs.Common.{◌≡◌, ◌+◌, ℕ, List, [], ◌∷◌, ◌++◌, map, refl, sym, ap, ap₂, subst, ◌∙◌, inl, inr}
-use Rattle.std.specs.Prelude.{◌⊎◌, Result, Ok, Err, Option, Some, None}
+use Rattle.std.proofs.Common.{◌≡◌, ℕ, List, [], ◌∷◌, ◌++◌, map, refl, sym, ap, ap₂, subst, ◌∙◌, inl, inr}
+use Rattle.std.specs.Prelude.{◌⊎◌, Result, Ok, Err, Some, None}
 use Rattle.std.proofs.lemmas.List.{append-nil}
-use Rattle.servient_base.specs.Moves.{Becomes, Then}
+use Rattle.servient_base.specs.Moves.{Then}
 use Rattle.wot_json.specs.Tree.{Json}
-use Rattle.wot_json.specs.Meaning.{json_of}
-use Rattle.wot_json.specs.declared.tree.Tree.{Tree}
-use Rattle.thing_ops.specs.declared.conditions.Conditions.{Conditions}
 use Rattle.thing_ops.specs.declared.outcome.Outcome.{Outcome}
 use Rattle.thing_ops.specs.Requests.{RequestSeen}
 use Rattle.thing_handler.specs.declared.handler.CallKind.{CallKind}
 use Rattle.thing_handler.specs.declared.handler.CallKind.TheVariants as call
-use Rattle.thing_handler.specs.declared.handler.Answer.{Answer}
 use Rattle.thing_handler.specs.declared.handler.Answer.TheVariants as answer
-use Rattle.thing_handler.specs.Turns.{HandlerCall, answered, missed}
+use Rattle.thing_handler.specs.Turns.{HandlerCall, missed}
 use Rattle.thing_site.specs.Site.{Placed, Site}
 use Rattle.thing_site.specs.declared.place.ThingAct.{ThingAct}
 use Rattle.thing_site.specs.declared.place.ThingAct.TheVariants.{Describes as describes, ReadsAll as reads_all, WritesMany as writes_many, Reads as reads_one, Writes as writes_one, Invokes as invokes_one, Queries as queries_one, Cancels as cancels_one, ReadsEvent as reads_event, Waits as waits}
 use Rattle.thing_site.specs.Refusals.{Input}
-use Rattle.thing_state.specs.State.{State, Status, running, completed, Emission, version_of}
+use Rattle.thing_state.specs.State.{State, Status, running, completed, Emission}
 use Rattle.thing_state.specs.Calls.{Called, no_number, no_memory, gives, failure_of, Calls}
-use Rattle.thing_core.specs.Thing.{Done, GivesValue, ReadsValue, with_value, readable, ReadsEach, SeesWritten, emissions_of_write, Stops, IfDone, WritesEach, IsHandedIn, IsInvoked, IsQueried, Queries, IsCancelled, Cancels, Performs, Acts, refuses, has_no_memory, performs, PollsEvent}
+use Rattle.thing_core.specs.Thing.{Done, GivesValue, ReadsValue, readable, ReadsEach, SeesWritten, emissions_of_write, Stops, IfDone, WritesEach, IsInvoked, IsQueried, Queries, IsCancelled, Cancels, Performs, Acts, refuses, has_no_memory, performs, PollsEvent}
 use Rattle.thing_core.proofs.ReadLaws.{AfterValue}
 use Rattle.servient_laws.specs.CallRequests.{AskedCall, reads, writes, invokes, queries, cancels, slot_of, IsCall, LetsGoOn, calls_of_act, AreFirstOf, AreCallsOf, makes_none, makes_some, ArePollOf}
 

@@ -1,5 +1,5 @@
 -- The calls of a datagram and those of a tick.
-use Rattle.std.proofs.Common.{◌≡◌, ◌+◌, ℕ, false, max, List, [], ◌∷◌, ◌++◌, length, map, Option, Some, None, refl, sym, ap, subst, ◌∙◌, append_assoc, inl, inr}
+use Rattle.std.proofs.Common.{◌≡◌, ℕ, false, max, List, [], ◌∷◌, ◌++◌, length, map, Option, Some, None, refl, sym, ap, subst, ◌∙◌, append_assoc, inl, inr}
 use Rattle.std.specs.Prelude.{Contains}
 use Rattle.std.proofs.lemmas.List.{append-nil}
 use Rattle.std.proofs.lemmas.List.Elements.{Contains-push, Contains-append_left}
@@ -18,8 +18,7 @@ use Rattle.thing_site.specs.Site.{Placed, events_of}
 use Rattle.coap_bind.specs.declared.pending.PendingReply.{PendingReply}
 use Rattle.coap_bind.specs.declared.server.Server.{Server}
 use Rattle.coap_bind.specs.Server.{Heard, ignored, answered_at_once, asked as is_asked, with_whole_body, malformed, no_request, duplicate, full, IsMet, replied_at_once, duplicate_reply, Reads, replied, bad_option_ignored, gives_links, asks as reads_asks, asks_whole, Hears, settled, admitted}
-use Rattle.http_wire.specs.Stream.{message}
-use Rattle.http_bind.specs.Streams.{Streams, asks}
+use Rattle.http_bind.specs.Streams.{Streams}
 use Rattle.servient_outside.specs.declared.net.What.TheVariants as what
 use Rattle.servient_outside.specs.declared.net.EventWithBytes.{EventWithBytes}
 use Rattle.servient_outside.specs.Network.{heard, did, broke, events_in}

@@ -6,7 +6,6 @@ use Rattle.std.proofs.lemmas.List.{append-nil, length-set}
 use Rattle.std.proofs.lemmas.Option.{same_Some}
 use Rattle.servient_base.specs.Moves.{Then}
 use Rattle.thing_ops.specs.declared.outcome.Outcome.{Outcome}
-use Rattle.thing_ops.specs.declared.outcome.Outcome.TheVariants as outcome
 use Rattle.thing_ops.specs.Requests.{RequestSeen}
 use Rattle.thing_core.specs.Thing.{Done}
 use Rattle.http_wire.specs.Stream.{PlainHead, Front, short, message, fault, IsFront}

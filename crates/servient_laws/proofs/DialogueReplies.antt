@@ -1,5 +1,5 @@
 -- A reply, the end of an event and what comes of a datagram keep the dialogue of a connection.
-use Rattle.std.proofs.Common.{◌≡◌, ◌<◌, ◌+◌, ℕ, Bool, true, false, List, [], ◌∷◌, ◌++◌, length, map, Option, Some, None, refl, sym, ap, ap₂, subst, ◌∙◌, inl, inr}
+use Rattle.std.proofs.Common.{◌≡◌, ◌<◌, ℕ, Bool, true, false, List, [], ◌∷◌, ◌++◌, length, map, Option, Some, None, refl, sym, ap, ap₂, subst, ◌∙◌, inl, inr}
 use Rattle.std.specs.Prelude.{◌==◌, option_map, if◌then◌else◌}
 use Rattle.std.proofs.lemmas.List.{length-set}
 use Rattle.std.proofs.lemmas.Option.{same_Some}
@@ -12,11 +12,9 @@ use Rattle.thing_site.specs.Site.{Placed}
 use Rattle.thing_state.specs.State.{Emission, last_of}
 use Rattle.thing_core.specs.Thing.{Done, PollsEvent}
 use Rattle.coap_bind.specs.Server.{Heard, ignored, answered_at_once, asked as is_asked, Hears, Answers, SendsNext, with_emitted}
-use Rattle.http_wire.specs.Stream.{message}
 use Rattle.http_bind.specs.declared.owed.Owed.{Owed}
 use Rattle.http_bind.specs.Replying.{reply}
 use Rattle.http_bind.specs.Streams.{HttpReply, Connection, Streams, connection_at, without_wait, found, after_reply, Replies, woken_by, Wakes, Closes, IsIdle, NoneIdle, is_idle, oldest_for, oldest_late}
-use Rattle.servient_outside.specs.declared.net.What.TheVariants as what
 use Rattle.servient_outside.specs.declared.net.Act.{Act}
 use Rattle.servient_outside.specs.declared.net.Act.TheVariants as act
 use Rattle.servient_outside.specs.Network.{did}

@@ -1,20 +1,17 @@
 -- What keeps the dialogue of a connection: sightings that aren't of it, and changes of other connections.
-use Rattle.std.proofs.Common.{◌≡◌, ◌<◌, ℕ, Bool, true, false, List, [], ◌∷◌, ◌++◌, length, map, Option, Some, None, filter, refl, sym, ap, ap₂, subst, ◌∙◌, arith, append_assoc, inl, inr}
-use Rattle.std.specs.Prelude.{◌==◌, ◌&&◌, ◌||◌, ◌≢◌, not, slice_index_or, slice_set, if◌then◌else◌}
+use Rattle.std.proofs.Common.{◌≡◌, ◌<◌, ℕ, Bool, true, false, List, [], ◌∷◌, ◌++◌, length, map, Option, Some, None, filter, refl, sym, ap, subst, ◌∙◌, arith, append_assoc}
+use Rattle.std.specs.Prelude.{◌==◌, ◌||◌, ◌≢◌, not, if◌then◌else◌}
 use Rattle.std.specs.List.{list_any}
 use Rattle.std.proofs.lemmas.Bool.Decides.{nat_tests}
 use Rattle.std.proofs.lemmas.List.{append-nil, get_or-set_other, get_or-set_same, length-set}
-use Rattle.std.proofs.lemmas.Option.{same_Some}
 use Rattle.servient_base.specs.Moves.{Becomes, Then, Each, Until, is_done, goes_on}
 use Rattle.thing_handler.specs.Turns.{HandlerCall}
 use Rattle.http_bind.specs.declared.waits.Wait.{Wait}
 use Rattle.http_bind.specs.Streams.{Connection, Streams, connection_at, with_connection, without_wait, other_waits, is_wait_of, is_waiting}
-use Rattle.servient_outside.specs.declared.net.Act.{Act}
-use Rattle.servient_outside.specs.Network.{did}
-use Rattle.servient_trace.specs.Trace.{Sighting, at_network, at_handler}
-use Rattle.servient_core.specs.Machine.{Site, State, Move, OnHttp, OnCoap}
+use Rattle.servient_trace.specs.Trace.{Sighting, at_handler}
+use Rattle.servient_core.specs.Machine.{Site, State, Move, OnCoap}
 use Rattle.coap_bind.specs.declared.server.Server.{Server}
-use Rattle.servient_laws.specs.Dialogues.{is_of, is_act_on, Talk, Dialogue, passes, AreSame, PendingWaits, Converses}
+use Rattle.servient_laws.specs.Dialogues.{is_of, Talk, Dialogue, passes, AreSame, PendingWaits, Converses}
 
 -- ---- what was seen
 

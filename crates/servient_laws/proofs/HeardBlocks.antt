@@ -1,6 +1,6 @@
 -- The effect of a datagram that is heard on the bodies and the parts, its ask, and the effect of answering that.
-use Rattle.std.proofs.Common.{◌≡◌, ℕ, List, [], ◌∷◌, ◌++◌, refl, sym, ap, ap₂, subst, ◌∙◌, inl, inr, remove, map}
-use Rattle.std.specs.Prelude.{◌⊎◌, Option, Some, None, true}
+use Rattle.std.proofs.Common.{◌≡◌, ℕ, List, [], ◌∷◌, ◌++◌, refl, sym, ap, ap₂, subst, ◌∙◌, remove}
+use Rattle.std.specs.Prelude.{Option, true}
 use Rattle.std.proofs.lemmas.List.{append-nil}
 use Rattle.std.proofs.lemmas.List.Elements.{filter_map-append}
 use Rattle.coap_msg.specs.declared.block.Block.{Block}
@@ -9,8 +9,6 @@ use Rattle.coap_msg.specs.declared.message.RequestType.{RequestType}
 use Rattle.coap_msg.specs.declared.message.RequestType.TheVariants.{Confirmable, NonConfirmable}
 use Rattle.coap_msg.specs.Grammar.{CoapMessage, Spells}
 use Rattle.coap_msg.specs.Requests.{request_type}
-use Rattle.coap_exchange.specs.declared.met.Met.TheVariants.{Fresh}
-use Rattle.coap_blocks.specs.Bodies.{Body}
 use Rattle.coap_blocks.specs.Laws.{Call, adds, clears, blocks_among, parts_after}
 use Rattle.coap_blocks.specs.Parts.{Arrival as BlockArrival, Part}
 use Rattle.coap_opts.specs.Reading.{AskSeen, asked as what_is_asked}
@@ -19,7 +17,7 @@ use Rattle.coap_bind.specs.declared.pending.PendingReply.{PendingReply}
 use Rattle.coap_bind.specs.declared.server.Server.{Server}
 use Rattle.coap_bind.specs.Blocks.{answer_reply, bodies_after}
 use Rattle.coap_bind.specs.Links.{size_asked, bodies_with_links}
-use Rattle.coap_bind.specs.Server.{Heard, asked, is_request, with_id_used, with_kept, with_observers, with_bodies, with_parts, Replies, Answers, wanted_in, pending_of, pending_joined, with_whole_body, block_arrival, Adds, IsAnsweredAtOnce, bad_option, bad_block, for_proxy, no_memory, later_block, joined, takes_no_other_verb, takes_no_body, Reads, replied, bad_option_ignored, asks_links, gives_links, links_given, observing_in, asks, asks_whole as reads_whole, malformed, no_request, duplicate, full, settled, admitted, Hears, answered_at_once, ignored}
+use Rattle.coap_bind.specs.Server.{Heard, asked, is_request, with_id_used, with_kept, with_observers, with_bodies, with_parts, Replies, Answers, wanted_in, pending_of, pending_joined, with_whole_body, block_arrival, IsAnsweredAtOnce, bad_option, bad_block, for_proxy, no_memory, later_block, joined, takes_no_other_verb, takes_no_body, Reads, replied, bad_option_ignored, asks_links, gives_links, links_given, observing_in, asks, asks_whole as reads_whole, malformed, no_request, duplicate, full, settled, admitted, Hears, answered_at_once, ignored}
 use Rattle.coap_bind.specs.Writing.{Reply, observed, ReplyHead, head_of, head_in}
 use Rattle.coap_bind.proofs.HistoryLaws.{not_replied, not_duplicate}
 use Rattle.thing_ops.specs.declared.outcome.Outcome.{Outcome}
@@ -31,7 +29,7 @@ use Rattle.servient_core.specs.Machine.{Site, State, AnswersDatagram}
 use Rattle.servient_core.specs.Meaning.{by_coap}
 use Rattle.servient_core.proofs.MeaningLaws.{rest_quiet}
 use Rattle.servient_core.proofs.PartLaws.{the_calls}
-use Rattle.servient_laws.proofs.KeptBlocks.{SameBlocks, delivers_each_same}
+use Rattle.servient_laws.proofs.KeptBlocks.{delivers_each_same}
 
 -- ---- what stays
 

@@ -1,8 +1,8 @@
 -- The moves that leave the bodies and the parts of the CoAP server: all but that a datagram is heard, and that its
 -- request is answered.
-use Rattle.std.proofs.Common.{◌≡◌, ◌≤◌, ℕ, List, [], ◌∷◌, map, refl, sym, ap, subst, ◌∙◌, max, inl, inr, length}
+use Rattle.std.proofs.Common.{◌≡◌, ◌≤◌, ℕ, List, [], ◌∷◌, map, refl, ap, subst, ◌∙◌, max, inl, inr, length}
 use Rattle.std.specs.Prelude.{◌⊎◌, Option, Some, None, Bool, true, false, if◌then◌else◌}
-use Rattle.servient_base.specs.Moves.{Becomes, Each, Until, is_done, goes_on}
+use Rattle.servient_base.specs.Moves.{Each, Until, is_done, goes_on}
 use Rattle.coap_msg.specs.declared.constants.TheConstants.{LONGEST_DATAGRAM}
 use Rattle.coap_msg.specs.declared.endpoint.Endpoint.{Endpoint}
 use Rattle.coap_observe.specs.declared.notice.Notice.{Notice}
@@ -17,7 +17,7 @@ use Rattle.servient_outside.specs.declared.net.What.{What}
 use Rattle.servient_outside.specs.declared.net.What.TheVariants as what
 use Rattle.servient_outside.specs.declared.net.EventWithBytes.{EventWithBytes}
 use Rattle.servient_trace.specs.Trace.{Sighting}
-use Rattle.servient_core.specs.Machine.{Site, State, Move, OnCoap, SendsIfAny, RepliesToWait, AnswersWait, AnswersLateWait, Delivers, DeliversEach, PerformsByHttp, AnswersTaken, TakesNextMessage, HearsDatagram, ClosesIdle, PollsAndDelivers, SendsNotification, NothingIsDue, EndsEvent, Follows, Step, EventAndStep}
+use Rattle.servient_core.specs.Machine.{Site, State, Move, OnCoap, SendsIfAny, RepliesToWait, AnswersWait, AnswersLateWait, Delivers, DeliversEach, PerformsByHttp, AnswersTaken, TakesNextMessage, ClosesIdle, PollsAndDelivers, SendsNotification, NothingIsDue, EndsEvent, Follows, Step, EventAndStep}
 
 -- the bodies, the parts and the links are as they were, and so is the moment
 pub record SameBlocks (s t : State) : Type 0 where

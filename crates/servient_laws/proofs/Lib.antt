@@ -24,6 +24,7 @@ mod AlikeMoves
 mod AlikeRequests
 mod RunParts
 mod RefusedRequests
+mod AlikeDatagrams
 mod AlikeRuns
 mod UntouchedLaws
 mod PayloadLaws
@@ -35,6 +36,7 @@ mod SpokenHeads
 mod SpokenByHttp
 mod InMemoryLaws
 mod StopLaws
+mod FailureStages
 mod FailureLaws
 mod SectionRuns
 mod DirectoryAnswers

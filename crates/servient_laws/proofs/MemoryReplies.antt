@@ -1,12 +1,12 @@
 -- The reply that says that memory was wanting differs from every other reply to the same request, by either binding.
-use Rattle.std.proofs.Common.{◌≡◌, ◌+◌, ℕ, Bool, true, false, List, [], ◌∷◌, ◌++◌, drop, Option, Some, None, refl, sym, ap, subst, ◌∙◌}
+use Rattle.std.proofs.Common.{◌≡◌, ℕ, Bool, true, false, List, [], ◌∷◌, ◌++◌, drop, Option, Some, None, refl, sym, ap, subst, ◌∙◌}
 use Rattle.std.specs.Prelude.{◌==◌, length, nat_lt, nat_le, codes, option_map, if◌then◌else◌}
 use Rattle.std.proofs.lemmas.List.{append_cancel_left}
 use Rattle.std.proofs.lemmas.Option.{same_Some}
 use Rattle.coap_msg.specs.declared.block.Block.{Block}
 use Rattle.coap_msg.specs.declared.endpoint.Endpoint.{Endpoint}
 use Rattle.coap_msg.specs.Blocks.{block_start}
-use Rattle.coap_msg.specs.Grammar.{CoapMessage, options_spelling, payload_spelling, spelling}
+use Rattle.coap_msg.specs.Grammar.{options_spelling, payload_spelling, spelling}
 use Rattle.coap_observe.specs.Watching.{Watching}
 use Rattle.coap_blocks.specs.Bodies.{Content, longest_body}
 use Rattle.coap_blocks.specs.declared.added.Added.{Added}

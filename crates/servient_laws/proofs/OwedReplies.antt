@@ -1,24 +1,21 @@
 -- A connection that is owed a reply gets none for want of memory before bytes come from it again: the request waits, and
 -- what follows is seen of others, or wakes it.
-use Rattle.std.proofs.Common.{◌≡◌, ℕ, Bool, true, false, List, [], ◌∷◌, ◌++◌, map, Option, Some, None, refl, sym, ap, ap₂, subst, ◌∙◌, inl, inr}
+use Rattle.std.proofs.Common.{◌≡◌, ℕ, Bool, List, [], ◌∷◌, ◌++◌, map, Option, Some, None, sym, ap, ap₂, subst, ◌∙◌, inl, inr}
 use Rattle.std.specs.Prelude.{◌⊎◌, if◌then◌else◌}
 use Rattle.std.proofs.lemmas.Option.{same_Some}
 use Rattle.servient_base.specs.Moves.{Then, Each, Until, is_done, goes_on}
 use Rattle.coap_bind.specs.declared.server.Server.{Server}
 use Rattle.coap_bind.specs.Server.{with_emitted, SendsNext}
-use Rattle.coap_observe.specs.declared.notice.Notice.{Notice}
-use Rattle.thing_ops.specs.declared.outcome.Outcome.{Outcome}
 use Rattle.thing_ops.specs.declared.outcome.Outcome.TheVariants as outcome
 use Rattle.thing_state.specs.State.{Emission, last_of}
 use Rattle.http_bind.specs.declared.owed.Owed.{Owed}
 use Rattle.http_bind.specs.Replying.{reply}
-use Rattle.http_bind.specs.Streams.{HttpReply, Connection, Streams, connection_at, Taken, takes_front, is_interrupted, Takes, IsDry, oldest_for, oldest_late, NoneIdle, woken_by, Wakes}
+use Rattle.http_bind.specs.Streams.{Connection, Streams, connection_at, Taken, takes_front, is_interrupted, Takes, IsDry, oldest_for, oldest_late, NoneIdle, woken_by, Wakes}
 use Rattle.servient_outside.specs.declared.net.EventWithBytes.{EventWithBytes}
-use Rattle.servient_outside.specs.declared.net.Act.{Act}
 use Rattle.servient_outside.specs.declared.net.Act.TheVariants as act
 use Rattle.servient_outside.specs.Network.{heard, did}
 use Rattle.servient_trace.specs.Trace.{Sighting, at_network}
-use Rattle.servient_core.specs.Machine.{Site, State, Move, OnHttp, OnCoap, Does, Sends, RepliesToWait, AnswersWait, MarksObservers, Delivers, DeliversEach, SendsNotification, NothingIsDue, SendsNotifications, AnswersLateWait, ClosesIdle, EndsEvent, notification_bytes, AnswersTaken, TakesNextMessage, TakesEveryMessage, EventAndStep, Run}
+use Rattle.servient_core.specs.Machine.{Site, State, Move, OnCoap, Does, RepliesToWait, AnswersWait, MarksObservers, Delivers, DeliversEach, SendsNotification, NothingIsDue, SendsNotifications, AnswersLateWait, ClosesIdle, EndsEvent, notification_bytes, AnswersTaken, TakesNextMessage, TakesEveryMessage, EventAndStep, Run}
 use Rattle.servient_core.specs.Keeping.{AnswersWaits, ClosesAllIdle, AnswersLateWaits}
 use Rattle.servient_laws.proofs.MemoryReplies.{differs_by_http}
 

@@ -1,15 +1,13 @@
 -- What is seen of a request that is refused because memory was wanting, and that what is seen of any other begins with
 -- something else.
-use Rattle.std.proofs.Common.{◌≡◌, ℕ, Bool, true, false, List, [], ◌∷◌, ◌++◌, map, Option, Some, None, refl, sym, ap, ap₂, subst, ◌∙◌, inl, inr}
-use Rattle.std.specs.Prelude.{◌⊎◌, if◌then◌else◌}
-use Rattle.servient_base.specs.Moves.{Then}
+use Rattle.std.proofs.Common.{◌≡◌, ℕ, Bool, List, [], ◌∷◌, ◌++◌, map, Option, Some, None, refl, sym, ap, ap₂, subst, ◌∙◌}
+use Rattle.std.specs.Prelude.{if◌then◌else◌}
 use Rattle.coap_msg.specs.declared.endpoint.Endpoint.{Endpoint}
 use Rattle.coap_msg.specs.Grammar.{spelling}
 use Rattle.coap_observe.specs.Watching.{Watching}
 use Rattle.thing_ops.specs.declared.outcome.Outcome.{Outcome}
 use Rattle.thing_ops.specs.declared.outcome.Outcome.TheVariants as outcome
 use Rattle.thing_handler.specs.Turns.{HandlerCall}
-use Rattle.thing_state.specs.State.{State as ThingState}
 use Rattle.thing_core.specs.Thing.{Done, only}
 use Rattle.thing_core.proofs.ApartLaws.{PartsAt}
 use Rattle.coap_opts.specs.Reading.{AskSeen}
@@ -33,7 +31,7 @@ use Rattle.servient_outside.specs.declared.net.Act.TheVariants as act
 use Rattle.servient_outside.specs.Network.{did}
 use Rattle.servient_trace.specs.Trace.{Sighting, at_network, at_handler}
 use Rattle.servient_core.specs.Machine.{Site, State, Sends, SendsIfAny, observed_target, AnswersAsk, AnswersMessage}
-use Rattle.servient_laws.specs.Determined.{TellsOfMemory, by_coap, by_http, IsSign}
+use Rattle.servient_laws.specs.Determined.{by_coap, IsSign}
 use Rattle.servient_laws.proofs.AlikeRequests.{GoesOn, has_called, has_ended}
 use Rattle.servient_laws.proofs.MemoryReplies.{answer_says, differs_by_http}
 use Rattle.servient_laws.proofs.OwedReplies.{Owes, IsNoRefusal}

@@ -1,14 +1,12 @@
 -- The origin of each body and each part of the CoAP server, over a run.
-use Rattle.std.proofs.Common.{◌≡◌, ◌-◌, ◌≤◌, ℕ, suc, List, [], ◌∷◌, ◌++◌, refl, sym, ap, ap₂, subst, ◌∙◌, max, inl, inr, length, take, drop, remove, append_assoc}
+use Rattle.std.proofs.Common.{◌≡◌, ◌-◌, ℕ, suc, List, [], ◌∷◌, ◌++◌, refl, sym, ap, subst, ◌∙◌, max, inl, inr, length, take, drop, append_assoc}
 use Rattle.std.specs.Prelude.{◌⊎◌, ◌==◌, Bool, true, false, Option, Some, None, option_map, All, if◌then◌else◌}
 use Rattle.std.proofs.lemmas.List.{append-nil}
 use Rattle.std.proofs.lemmas.List.Elements.{All-nil, All-append, All-take, All-drop, All-push, All-weaker}
 use Rattle.servient_base.proofs.MovesLaws.{each_more}
-use Rattle.servient_base.specs.Moves.{Each}
-use Rattle.coap_msg.specs.declared.block.Block.{Block}
 use Rattle.coap_msg.specs.declared.constants.TheConstants.{GET}
 use Rattle.coap_msg.specs.declared.endpoint.Endpoint.{Endpoint}
-use Rattle.coap_msg.specs.Grammar.{CoapMessage, Spells}
+use Rattle.coap_msg.specs.Grammar.{CoapMessage}
 use Rattle.coap_blocks.specs.Bodies.{Body, most_bodies, other_bodies, without_place, with_body}
 use Rattle.coap_blocks.specs.Laws.{Call, adds, clears, after_call, IsLeftOf, no_more, stays as stays_in, goes as goes_from, blocks_among, parts_after}
 use Rattle.coap_blocks.specs.Parts.{Arrival as BlockArrival, Part}
@@ -16,13 +14,12 @@ use Rattle.coap_opts.specs.Reading.{AskSeen, asked as what_is_asked}
 use Rattle.coap_bind.specs.declared.blocks.BlockUse.{BlockUse}
 use Rattle.coap_bind.specs.declared.blocks.BlockUse.TheVariants as blocks
 use Rattle.coap_bind.specs.declared.blocks.Giving.{Giving}
-use Rattle.coap_bind.specs.Blocks.{block2_of, use_of, bodies_after, body_of, is_kept}
+use Rattle.coap_bind.specs.Blocks.{block2_of, bodies_after, body_of, is_kept}
 use Rattle.coap_bind.specs.Links.{bodies_with_links, is_text_kept, links_content, size_asked}
 use Rattle.coap_bind.specs.declared.pending.PendingReply.{PendingReply}
 use Rattle.coap_bind.specs.declared.server.Server.{Server}
-use Rattle.coap_bind.specs.Server.{Heard, ignored, answered_at_once, asked, asks_links, is_request, observing_in, block_arrival, pending_of, pending_joined, with_whole_body}
+use Rattle.coap_bind.specs.Server.{Heard, ignored, answered_at_once, asked, asks_links, observing_in, block_arrival, pending_of, pending_joined, with_whole_body}
 use Rattle.thing_ops.specs.declared.outcome.Outcome.{Outcome}
-use Rattle.thing_ops.specs.Outcomes.{payload_of}
 use Rattle.thing_state.specs.State.{State as ThingState}
 use Rattle.thing_core.specs.Thing.{Done, Acts}
 use Rattle.servient_outside.specs.declared.net.EventWithBytes.{EventWithBytes}
@@ -34,8 +31,8 @@ use Rattle.servient_core.specs.Links.{segments_of, text_of_links}
 use Rattle.servient_core.specs.Machine.{Site, State, start, AnswersDatagram, EndsEvent, EventAndStep, Run}
 use Rattle.servient_core.proofs.MeaningLaws.{ends_quiet}
 use Rattle.servient_laws.specs.Requests.{Brings, moment_of}
-use Rattle.servient_laws.specs.Transfers.{ActsOnce, Gave, by_act, by_links, WasGiven, IsBlockIn, AreBlocksFrom}
-use Rattle.servient_laws.proofs.KeptBlocks.{SameBlocks, same_state, then_same, ends_same, BringsDatagram, event_same}
+use Rattle.servient_laws.specs.Transfers.{ActsOnce, by_act, by_links, WasGiven, IsBlockIn, AreBlocksFrom}
+use Rattle.servient_laws.proofs.KeptBlocks.{SameBlocks, same_state, ends_same, BringsDatagram, event_same}
 use Rattle.servient_laws.proofs.HeardBlocks.{AreBlocksOf, no_block, one_block, HearsBodies, same_bodies, links_kept, HearsBlocks, hears_blocks, AsksFor, asks_nothing, asks_act, asks_whole, hears_asks, Answered, asked_is_answered}
 use Rattle.servient_laws.proofs.RequestLaws.{Parts, parts_of}
 

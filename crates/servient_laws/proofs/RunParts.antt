@@ -1,6 +1,6 @@
 -- What is known of two runs so far, as their moves are put together: they are alike, or they parted at a sign that memory
 -- was wanting.
-use Rattle.std.proofs.Common.{◌≡◌, ℕ, List, [], ◌∷◌, ◌++◌, refl, sym, ap, ap₂, ◌∙◌, append_assoc, inl, inr}
+use Rattle.std.proofs.Common.{◌≡◌, ℕ, List, [], ◌∷◌, ◌++◌, sym, ap, ap₂, ◌∙◌, append_assoc, inl, inr}
 use Rattle.std.specs.Prelude.{◌⊎◌}
 use Rattle.std.proofs.lemmas.List.{append-nil}
 use Rattle.thing_core.proofs.ApartLaws.{PartsAt, part_after, part_before}
@@ -8,7 +8,7 @@ use Rattle.servient_outside.specs.declared.net.EventWithBytes.{EventWithBytes}
 use Rattle.servient_outside.specs.Network.{heard}
 use Rattle.servient_trace.specs.Trace.{Sighting, at_network}
 use Rattle.servient_core.specs.Machine.{State}
-use Rattle.servient_laws.specs.Determined.{IsSign, BringsBlock, AreSameUpToSign, HasSignsOf, RefusesBlock, Agree, AreDetermined}
+use Rattle.servient_laws.specs.Determined.{IsSign, BringsBlock, AreSameUpToSign, HasSignsOf, Agree, AreDetermined}
 use Rattle.servient_laws.proofs.AlikeStates.{Agreed, joined_alike}
 use Rattle.servient_laws.proofs.OwedReplies.{Owes, IsNoRefusal, Passed}
 

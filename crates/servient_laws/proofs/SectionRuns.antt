@@ -1,20 +1,18 @@
 -- A run that is shown in sections keeps what whole runs promise: it is taken apart at one of its events.
-use Rattle.std.proofs.Common.{◌≡◌, ◌∙◌, ◌++◌, ℕ, List, [], ◌∷◌, Option, refl, sym, ap, subst}
+use Rattle.std.proofs.Common.{◌≡◌, ◌∙◌, ◌++◌, List, [], ◌∷◌, refl, sym, ap, subst}
 use Rattle.std.specs.Prelude.{All}
 use Rattle.std.proofs.lemmas.List.{append-nil, append_assoc}
 use Rattle.std.proofs.lemmas.List.Elements.{filter_map-append}
-use Rattle.servient_base.specs.Moves.{Each, Then, Becomes, Stays}
-use Rattle.coap_exchange.specs.Admission.{duplicate, refused}
+use Rattle.servient_base.specs.Moves.{Then}
 use Rattle.thing_handler.specs.Turns.{HandlerCall}
 use Rattle.servient_outside.specs.declared.net.EventWithBytes.{EventWithBytes}
 use Rattle.servient_core.specs.declared.sections.SectionsEnd.{SectionsEnd}
 use Rattle.servient_core.specs.declared.sections.SectionsEnd.TheVariants as ending
 use Rattle.servient_trace.specs.Trace.{Sighting, call_in, calls_in}
 use Rattle.servient_core.specs.Machine.{Site, State, start, EventAndStep, Run}
-use Rattle.servient_trace.specs.ShownSections.{Shown, seen_in}
-use Rattle.servient_core.specs.Sections.{EndsSections, ServesInSections}
+use Rattle.servient_trace.specs.ShownSections.{seen_in}
+use Rattle.servient_core.specs.Sections.{EndsSections}
 use Rattle.servient_laws.specs.Calls.{IsFit}
-use Rattle.servient_laws.specs.Requests.{ComesTo}
 use Rattle.servient_laws.specs.Sections.{TakesAmong, SectionsKeepPromises}
 use Rattle.servient_laws.proofs.RequestLaws.{repeats_act_once, full_tables_act_on_nothing}
 use Rattle.servient_laws.proofs.RunCalls.{calls_are_fit}

@@ -7,7 +7,7 @@ use Rattle.coap_msg.specs.declared.constants.TheConstants.{LONGEST_SEGMENT, GET,
 use Rattle.coap_msg.specs.Blocks.{block_of}
 use Rattle.coap_msg.specs.Grammar.{CoapOption, AreInOrder}
 use Rattle.coap_msg.specs.Opts.{segment_options}
-use Rattle.coap_opts.specs.Reading.{faults_after, faults_of, values_under, number_within, number_under, conditions_by, conditions_of, registers, verb_of, format_of, accept_of}
+use Rattle.coap_opts.specs.Reading.{faults_after, values_under, number_within, number_under, conditions_by, conditions_of, registers, verb_of, format_of, accept_of}
 use Rattle.coap_opts.specs.Table.{observe, content_format, accept, may_stand, stands_again}
 use Rattle.thing_ops.specs.declared.verb.Verb.{Verb}
 use Rattle.thing_ops.specs.declared.verb.Verb.TheVariants as verb

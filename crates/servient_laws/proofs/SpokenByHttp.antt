@@ -1,9 +1,7 @@
 -- A request is read from the HTTP message that says it.
 use Rattle.std.proofs.Common.{◌≡◌, ◌≢◌, ◌<◌, ◌≤◌, ◌+◌, ◌-◌, ℕ, Bool, true, false, not, List, [], ◌∷◌, ◌++◌, append-nil, length, map, take, drop, Option, Some, option_map, Ok, Err, refl, sym, ap, ap₂, subst, ◌∙◌, arith}
-use Rattle.std.specs.Prelude.{◌&&◌, nat_lt, nat_le, codes, decimal, Result, if◌then◌else◌}
+use Rattle.std.specs.Prelude.{◌&&◌, nat_le, codes, decimal, Result, if◌then◌else◌}
 use Rattle.std.specs.List.{AllByRecursion}
-use Rattle.std.specs.Char.{is_ascii_digit}
-use Rattle.std.specs.Str.Parse.{digits_value}
 use Rattle.std.proofs.Math.Seq.{take-append_seam, take-append-add, drop-append_seam}
 use Rattle.std.proofs.lemmas.Bool.Decides.{nat_tests}
 use Rattle.std.proofs.lemmas.List.{length-map, take_all}
@@ -17,7 +15,7 @@ use Rattle.http_wire.specs.Conditions.{conditions_of}
 use Rattle.http_wire.proofs.NotedLines.{no_other_line_asks}
 use Rattle.http_fields.specs.Fields.{Standing, once, Said, said_by, format_of, accept_of}
 use Rattle.http_wire.specs.Judging.{FramedHead, IsJudged, one_head, is_once, is_often, fields_judged, with_framing, has_body, longest_body}
-use Rattle.http_fields.specs.Framings.{is_length, stated_framing, framing_by}
+use Rattle.http_fields.specs.Framings.{framing_by}
 use Rattle.http_wire.specs.Stream.{IsFront, IsFrontAfter, one_end, longest_head, plain_head_of, with_body, with_head}
 use Rattle.http_fields.specs.Bodies.{stated_body}
 use Rattle.http_fields.specs.Chunks.{BodyFront, whole}
@@ -33,7 +31,8 @@ use Rattle.servient_laws.specs.Spoken.{MayBeAsked, method_of, target_of, header_
 use Rattle.consumer_laws.proofs.HeadLines.{AreLines, printed, lines_end, feeds_of_lines, lines_paired}
 use Rattle.servient_laws.proofs.SpokenTargets.{target_bytes, no_query, path_is_read}
 use Rattle.servient_laws.proofs.SpokenHeads.{Says, says_behind, asks_nothing, start_line, lines_in, head_lines, head_is, start_is_line, header_are, request_head}
-use Rattle.consumer_laws.proofs.HeadBytes.{digits_pass, field_of, fields, line_of, IsSize, is_size}
+use Rattle.consumer_laws.proofs.RequestHeads.{stated}
+use Rattle.consumer_laws.proofs.HeadBytes.{field_of, fields, line_of, IsSize, is_size}
 use Rattle.servient_laws.proofs.SpokenTags.{conditions_read}
 
 -- ---- how it is judged
@@ -43,34 +42,11 @@ counted true false x y once_is seldom = refl
 counted true true x y once_is seldom = absurd cc
 counted false c x y once_is seldom = absurd cc
 
-abbrev framing_of : Bool → Bool → ℕ → Result Framing ℕ
-framing_of b c m = if not b then Err 400 else if c then Err 413 else Ok (framing.Stated m)
-
-stated_as : (b c : Bool) (m n : ℕ) → b ≡ true → c ≡ false → m ≡ n → framing_of b c m ≡ Ok (framing.Stated n)
-stated_as true false m n is isnt same = ap (λ (k : ℕ). Ok (framing.Stated k)) same
-stated_as true true m n is isnt same = absurd cc
-stated_as false c m n is isnt same = absurd cc
-
-stated : (n : ℕ) → IsSize n → n ≤ longest_body → stated_framing longest_body (decimal n) ≡ Ok (framing.Stated n)
-stated n size short = stated_as (is_length (decimal n)) (nat_lt longest_body (digits_value 10 (decimal n))) (digits_value 10 (decimal n)) n is_stated (ap (nat_lt longest_body) size.value ∙ fits) size.value
-  where
-    fits : nat_lt longest_body n ≡ false
-    fits = grind (arith, nat_tests)
-
-    longer : (m : ℕ) → 0 < m → nat_lt 0 m ≡ true
-    longer m some = grind (arith, nat_tests)
-
-    digit : (c : ℕ) → 48 ≤ c → c ≤ 57 → is_ascii_digit c ≡ true
-    digit c low high = grind (arith, nat_tests)
-
-    is_stated : is_length (decimal n) ≡ true
-    is_stated = ap₂ (λ (x y : Bool). x && y) (longer (length (decimal n)) size.some) (digits_pass is_ascii_digit (decimal n) digit size.digits)
-
 framed : (f : Format) (json td : Bool) (n : ℕ) (s : Said) → Says f json td (decimal n) s → IsSize n → n ≤ longest_body → fields_judged true s ≡ Ok (framing.Stated n)
 framed f json td n s say size short =
     counted (is_once s.host) (is_often s.content_type) (framing_by longest_body true s.content_length s.transfer_encoding) (Err 400) say.host say.one_type
     ∙ ap₂ (λ (x y : Standing). framing_by longest_body true x y) (say.size_is ∙ ap once size.trimmed) say.coding
-    ∙ stated n size short
+    ∙ stated longest_body n size short
 
 said : (q : RequestSeen) → Says q.format q.accept.json q.accept.td (decimal (length q.body)) (said_by (lines_of (http_head q)))
 said q = says_behind q.conditions q.format q.accept.json q.accept.td (decimal (length q.body))

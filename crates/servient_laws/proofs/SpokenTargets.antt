@@ -1,15 +1,17 @@
 -- The target that says a path has that path, and no query.
-use Rattle.std.proofs.Common.{◌≡◌, ◌≢◌, ◌<◌, ◌≤◌, ◌+◌, ◌/◌, ◌%◌, ℕ, suc, Bool, true, false, List, [], ◌∷◌, ◌++◌, length, map, take, drop, append-nil, Some, option_map, refl, ap, ap₂, ◌∙◌, arith}
-use Rattle.std.specs.Prelude.{◌==◌, nat_lt, if◌then◌else◌}
-use Rattle.std.specs.List.{AllByRecursion, flat_map, slice_split, onto_first, position_or_len, before_first}
+use Rattle.std.proofs.Common.{◌≡◌, ◌≢◌, ◌<◌, ◌≤◌, ◌/◌, ◌%◌, ℕ, Bool, true, false, List, [], ◌∷◌, ◌++◌, length, map, take, drop, append-nil, Some, option_map, refl, ap, ap₂, ◌∙◌, arith}
+use Rattle.std.specs.Prelude.{◌==◌, nat_lt}
+use Rattle.std.specs.List.{AllByRecursion, flat_map, slice_split, onto_first, before_first}
 use Rattle.std.specs.Fmt.{digit_glyph}
 use Rattle.std.proofs.lemmas.Bool.Decides.{nat_tests}
-use Rattle.std.proofs.lemmas.List.{take_all, drop_all}
+use Rattle.std.proofs.lemmas.List.{take_all}
 use Rattle.percent_encoding.specs.Percent.{percent_encode_byte, percent_decode}
 use Rattle.percent_encoding.proofs.PercentLemmas.{percent_decode-nil, percent_decode-percent_encode_byte}
 use Rattle.http_wire.specs.Targets.{path_in, segments_behind, segments_of}
 use Rattle.http_wire.specs.Reading.{query_of}
 use Rattle.servient_laws.specs.Spoken.{encoded, target_of}
+use Rattle.description_laws.proofs.Targets.{no_mark}
+use Rattle.consumer_laws.proofs.Targets.{no_query as without_mark}
 
 -- ---- the bytes of a target
 
@@ -87,33 +89,18 @@ pub target_bytes : (path : List (List ℕ)) → AllByRecursion (AllByRecursion (
 target_bytes [] bytes = ((omega arith, omega arith, omega arith), tt)
 target_bytes (segment ∷ path) bytes = slashed_bytes (segment ∷ path) bytes
 
-no_mark : (bytes : List ℕ) → AllByRecursion IsTargetByte bytes → position_or_len (λ b. b == 63) bytes ≡ length bytes
-no_mark [] safe = refl
-no_mark (b ∷ bytes) safe = rw isnt (one_more (position_or_len (λ x. x == 63) bytes) (length bytes) (no_mark bytes safe.1))
-  where
-    other : b ≢ 63
-    other = safe.0.2
-
-    isnt : (b == 63) ≡ false
-    isnt = grind (arith, nat_tests)
-
-    one_more : (m n : ℕ) → m ≡ n → 1 + m ≡ suc n
-    one_more m n e = omega (arith, e)
+-- none of these bytes begins a query
+unmarked : (bytes : List ℕ) → AllByRecursion IsTargetByte bytes → AllByRecursion (λ b. b ≢ 63) bytes
+unmarked [] safe = tt
+unmarked (b ∷ bytes) safe = (safe.0.2, unmarked bytes safe.1)
 
 pub no_query : (target : List ℕ) → AllByRecursion IsTargetByte target → query_of target ≡ []
-no_query target safe =
-    ap (λ (n : ℕ). drop (if nat_lt n (length target) then n + 1 else length target) target) (no_mark target safe) ∙ at_end
-  where
-    never : nat_lt (length target) (length target) ≡ false
-    never = grind (arith, nat_tests)
-
-    at_end : drop (if nat_lt (length target) (length target) then length target + 1 else length target) target ≡ []
-    at_end = rw never (drop_all (length target) target (omega arith))
+no_query target safe = without_mark target (unmarked target safe)
 
 -- ---- the path
 
 whole_before : (target : List ℕ) → AllByRecursion IsTargetByte target → before_first (λ b. b == 63) target ≡ target
-whole_before target safe = ap (λ (n : ℕ). take n target) (no_mark target safe) ∙ take_all (length target) target (omega arith)
+whole_before target safe = ap (λ (n : ℕ). take n target) (no_mark target (unmarked target safe)) ∙ take_all (length target) target (omega arith)
 
 behind : (bytes : List ℕ) → 0 < length bytes → segments_behind bytes ≡ map percent_decode (parts bytes)
 behind [] some = absurd (omega (arith, some))

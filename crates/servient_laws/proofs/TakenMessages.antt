@@ -10,9 +10,7 @@ use Rattle.thing_state.specs.State.{Emission}
 use Rattle.thing_core.specs.Thing.{Done}
 use Rattle.coap_bind.specs.declared.server.Server.{Server}
 use Rattle.coap_bind.specs.Server.{SendsNext, with_emitted}
-use Rattle.http_wire.specs.Stream.{message}
 use Rattle.http_bind.specs.Streams.{HttpReply, Connection, Streams, connection_at, with_connection, after_reply, Replies, Answers as AnswersRequest, lets_wait, sends_reply, Closes, NoneIdle, oldest_for, oldest_late}
-use Rattle.servient_outside.specs.declared.net.What.TheVariants as what
 use Rattle.servient_trace.specs.Trace.{Sighting}
 use Rattle.servient_core.specs.Machine.{State, Move, OnCoap, SendsIfAny, RepliesToWait, AnswersWait, MarksObservers, Delivers, DeliversEach, AnswersMessage, SendsNotification, NothingIsDue, SendsNotifications, AnswersLateWait, ClosesIdle, EndsEvent}
 use Rattle.servient_core.specs.Keeping.{AnswersWaits, ClosesAllIdle, AnswersLateWaits}

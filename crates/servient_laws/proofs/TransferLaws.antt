@@ -12,18 +12,17 @@ use Rattle.coap_msg.specs.Grammar.{CoapMessage, Spells, spelling}
 use Rattle.coap_msg.proofs.Messages.{at_most_one_message}
 use Rattle.coap_msg.proofs.FaultLaws.{no_fault_of_message}
 use Rattle.coap_msg.proofs.SameEndpoints.{both}
-use Rattle.coap_msg.specs.Requests.{request_type}
 use Rattle.coap_exchange.specs.Admission.{Arrival, Verdict, duplicate, refused, admitted as is_admitted, verdict, admitted_among}
 use Rattle.coap_exchange.specs.declared.met.Met.TheVariants.{Fresh, Repeat, Full}
-use Rattle.coap_blocks.specs.Bodies.{Body, Content, is_body_of, body_for}
-use Rattle.coap_blocks.specs.Laws.{Call, blocks_among, parts_after, joined_payloads, IsRowFrom}
+use Rattle.coap_blocks.specs.Bodies.{Body, is_body_of, body_for}
+use Rattle.coap_blocks.specs.Laws.{blocks_among, parts_after, joined_payloads, IsRowFrom}
 use Rattle.coap_blocks.specs.Parts.{Origin, Arrival as BlockArrival, Part, living, after_block}
 use Rattle.coap_blocks.specs.Paths.{lives}
 use Rattle.coap_blocks.specs.declared.added.Added.{Added}
 use Rattle.coap_blocks.specs.declared.added.Added.TheVariants.{Complete}
 use Rattle.coap_blocks.proofs.BodyLaws.{own_is}
 use Rattle.coap_blocks.proofs.PartLaws.{whole_bodies_are_rows}
-use Rattle.coap_opts.specs.Reading.{AskSeen, faults_of, asked as what_is_asked}
+use Rattle.coap_opts.specs.Reading.{AskSeen, asked as what_is_asked}
 use Rattle.coap_opts.specs.declared.fault.AskFault.{AskFault}
 use Rattle.coap_bind.specs.declared.blocks.BlockWish.{BlockWish}
 use Rattle.coap_bind.specs.declared.blocks.BlockWish.TheVariants as wanted
@@ -31,10 +30,10 @@ use Rattle.coap_bind.specs.declared.pending.PendingReply.{PendingReply}
 use Rattle.coap_bind.specs.declared.server.Server.{Server}
 use Rattle.coap_bind.specs.Blocks.{use_of, portion_at, content_reply, block_reply, later_reply, added_reply}
 use Rattle.coap_bind.specs.Laws.{Did}
-use Rattle.coap_bind.specs.Server.{Heard, answered_at_once, asked, is_request, arrival, IsMet, malformed, no_request, duplicate as settles_duplicate, full, Hears, settled, admitted, observing_in, wanted_in, with_parts, Replies, pending_of, pending_joined, with_whole_body, block_arrival, Adds, IsAnsweredAtOnce, bad_option, bad_block, for_proxy, no_memory, later_block, joined, takes_no_other_verb, takes_no_body, Reads, replied, bad_option_ignored, asks_links, gives_links, asks, asks_whole}
+use Rattle.coap_bind.specs.Server.{Heard, answered_at_once, asked, is_request, arrival, IsMet, malformed, no_request, duplicate as settles_duplicate, full, Hears, settled, admitted, observing_in, wanted_in, with_parts, Replies, pending_of, pending_joined, with_whole_body, block_arrival, Adds, bad_option, bad_block, for_proxy, no_memory, later_block, joined, takes_no_other_verb, takes_no_body, Reads, replied, bad_option_ignored, asks_links, gives_links, asks, asks_whole}
 use Rattle.coap_bind.specs.Writing.{Reply, reply_of, head_of, coap_reply}
 use Rattle.thing_ops.specs.declared.outcome.Outcome.TheVariants as outcome
-use Rattle.thing_core.specs.Thing.{Done, Acts}
+use Rattle.thing_core.specs.Thing.{Done}
 use Rattle.servient_outside.specs.declared.net.EventWithBytes.{EventWithBytes}
 use Rattle.servient_outside.specs.Network.{heard}
 use Rattle.servient_trace.specs.Trace.{Sighting, at_network, calls_in}
@@ -44,7 +43,7 @@ use Rattle.servient_laws.specs.Payloads.{SaysByCoap}
 use Rattle.servient_laws.specs.Requests.{moment_of, ComesTo, ActsOnNothing, sends_back}
 use Rattle.servient_laws.specs.Transfers as laws
 use Rattle.servient_laws.specs.Transfers.{ActsOnce, IsRepliedTo, WasGiven, IsLaterBlock, AreBlocksFrom, ComesOfBlock, RequestsActOnce, LaterBlocksAreOfOneAct, JoinedBodiesActOnce}
-use Rattle.servient_laws.proofs.HeardBlocks.{Answered, asked_is_answered, replies_blocks}
+use Rattle.servient_laws.proofs.HeardBlocks.{asked_is_answered, replies_blocks}
 use Rattle.servient_laws.proofs.KeptBlocks.{ends_same}
 use Rattle.servient_laws.proofs.PayloadLaws.{by_ask, whole_says}
 use Rattle.servient_laws.proofs.RequestLaws.{Parts, parts_of, nothing_done, known, met_by}

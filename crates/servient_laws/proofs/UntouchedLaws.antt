@@ -15,26 +15,22 @@ use Rattle.servient_outside.specs.declared.files.HeldFile.{HeldFile}
 use Rattle.servient_outside.specs.declared.place.Place.{Place}
 use Rattle.servient_outside.specs.Network.{event_in, events_in}
 use Rattle.servient_plan.specs.Plan.{place_of}
-use Rattle.tm_parts.specs.Library.{Models}
 use Rattle.servient_core.specs.declared.serving.Served.TheVariants as served
-use Rattle.servient_trace.specs.Trace.{Sighting, happening_in, happened_in, calls_in}
+use Rattle.servient_trace.specs.Trace.{Sighting, happening_in, happened_in}
 use Rattle.servient_core.specs.Machine.{Site}
-use Rattle.command_stages.specs.declared.derivation.Planned.{Planned}
-use Rattle.command_stages.specs.Lines.{memory_line}
-use Rattle.command_stages.specs.Stages.{Deed, did_write, showing_in, showings_in, sighting_in, sightings_in, text_in, Outcome, goes_on, ends, AndThen, ends_first, goes_further}
-use Rattle.command_stages.specs.Reading.{ReadsFile, is_read, is_absent, is_unreadable, is_long, file_memory, is_not_read, has_been_read, has_failed, ReadsTree, is_tree, has_no_tree, tree_memory, longest_json}
+use Rattle.command_stages.specs.Stages.{Deed, showings_in, sighting_in, sightings_in, text_in, Outcome, goes_on, ends, AndThen, ends_first, goes_further}
+use Rattle.command_stages.specs.Reading.{ReadsFile, ReadsTree, longest_json}
 use Rattle.command_stages.specs.Checking.{Judges, is_valid, is_refused as is_judged, judge_memory, Checks}
-use Rattle.command_stages.specs.Deriving.{ReadsPlan, is_plan, is_no_plan, plan_memory, AddsModel, is_added, is_not_added, add_memory, TakesModel, TakesModels, IsPlanned, is_planned, ReadsPlanned, Derives, is_derived, is_refused, derive_memory, Prints, is_printed, print_memory, DerivesAndPrints}
+use Rattle.command_stages.specs.Deriving.{ReadsPlanned, Derives, Prints, is_printed, print_memory, DerivesAndPrints}
 use Rattle.command_stages.specs.Tabling.{PrintsTable, is_tabled, is_tabled_with, table_memory, Tables}
-use Rattle.servient_cli.specs.Opening.{Exposes, is_exposed, is_misfit, expose_memory, Opens}
-use Rattle.servient_cli.specs.Listening.{Listens, is_listening, cannot_listen, place_memory, listen_memory, ServesEvents, has_served, Endures, has_endured, ServesBy, ServesPlanned}
+use Rattle.servient_cli.specs.Opening.{Exposes, Opens}
+use Rattle.servient_cli.specs.Listening.{Listens, ServesEvents, has_served, Endures, has_endured, ServesBy, ServesPlanned}
 use Rattle.servient_core.specs.declared.sections.RunBounds.{RunBounds}
 use Rattle.servient_plan.specs.declared.plan.Plan.{Plan}
 use Rattle.logged_serving.specs.declared.serving.LoggedEnd.TheVariants as logged
-use Rattle.servient_cli.specs.LoggedServing.{bounds_of, TakesLog, log_taken, log_memory, ServesWithLog, heading_unwritten, has_logged, ListensAndLogs, LogsPlanned}
+use Rattle.servient_cli.specs.LoggedServing.{bounds_of, TakesLog, ServesWithLog, heading_unwritten, has_logged, ListensAndLogs, LogsPlanned}
 use Rattle.servient_cli.specs.Command.{Does, Commands, is_no_command, is_command, words_memory, IsNoCommand, is_serving, IsReported}
-use Rattle.command_stages.proofs.StageLaws.{seen_among}
-use Rattle.servient_trace.specs.ShownSections.{Shown, seen_in, ShowsInSections}
+use Rattle.servient_trace.specs.ShownSections.{Shown, ShowsInSections}
 use Rattle.servient_core.specs.declared.sections.SectionsEnd.TheVariants as ending
 use Rattle.servient_trace.proofs.ShownLaws.{nothing_shown}
 use Rattle.command_words.specs.declared.command.Budget.{Budget}

@@ -1,6 +1,6 @@
 -- Each call of a device handler in a run belongs to a request that came, or polls an event: it is the next of the calls that
 -- the request's act asks for, which its path and its verb lead to.
-use Rattle.std.specs.Prelude.{◌≡◌, ◌<◌, ◌⊎◌, ◌==◌, ℕ, ◌+◌, Bool, true, false, List, [], ◌∷◌, ◌++◌, map, slice_get, Contains, Option, Some, None, if◌then◌else◌, max}
+use Rattle.std.specs.Prelude.{◌≡◌, ◌⊎◌, ◌==◌, ℕ, ◌+◌, Bool, true, false, List, [], ◌∷◌, ◌++◌, map, Contains, Option, Some, if◌then◌else◌, max}
 use Rattle.coap_msg.specs.declared.block.Block.{Block}
 use Rattle.coap_msg.specs.declared.endpoint.Endpoint.{Endpoint}
 use Rattle.coap_msg.specs.Grammar.{CoapMessage, Spells}
@@ -16,7 +16,7 @@ use Rattle.thing_handler.specs.declared.handler.CallKind.TheVariants as call
 use Rattle.thing_handler.specs.declared.handler.Answer.{Answer}
 use Rattle.thing_handler.specs.declared.handler.Answer.TheVariants as answer
 use Rattle.thing_handler.specs.Turns.{HandlerCall, answered, missed}
-use Rattle.thing_site.specs.Site.{Placed, ExposedThing, events_of}
+use Rattle.thing_site.specs.Site.{Placed, events_of}
 use Rattle.thing_site.specs.declared.place.ThingAct.{ThingAct}
 use Rattle.thing_site.specs.declared.place.ThingAct.TheVariants as act
 use Rattle.thing_site.specs.Refusals.{Input, inputs_of}

@@ -128,8 +128,9 @@ pub fn joined_bodies_act_once()
 {}
 
 /// Over a whole run each request to the directory is answered by what stands at its moment, by the changes that the requests
-/// before it made: one for an entry gets the entry as it stands, one for the list the part of all that it asks for, and the
-/// directory is full, but for want of memory, exactly where no earlier fault holds, 4,096 entries stand, and the id is new.
+/// before it made: one for an entry gets the entry as it stands, one for the list the part of all that it asks for. The
+/// directory is full exactly where no earlier fault holds, 4,096 entries stand, and the id is new, unless the request is out
+/// of memory.
 pub fn directory_gives_out_what_stands()
     ensures { DirectoryGivesOutWhatStands }
 {}
